@@ -6,34 +6,9 @@
 # shellcheck source=/dev/null
 . "$top/rows/lib/program.sh"
 
-# Compares what the present root answers to the arguments $1 with the lines $2, in which `;` is a newline and `>` a tab, the
-# errors $3, with `;` between them, and the lines $4 as in program_lines. The root has the name $5.
-jobs_are() {
-  local wanted errors words
-  local text=${2//;/$'\n'}
-  text=${text//>/$tab}
-  printf '%s' "${text:+$text$'\n'}" >"$work/out.wanted"
-  program_lines "$4"
-  errors=${3//;/$'\n'}
-  printf '%s' "${errors:+$errors$'\n'}" >>"$work/err.wanted"
-  [ -z "$errors" ] || wanted=1
-  IFS=' ' read -r -a words <<<"$1"
-  program_run "${words[@]}" --root root
-  program_compare "$1 of '$5'" "$work/out.wanted" "$work/err.wanted" "$wanted"
-}
-
-# Rows from standard input: a root, arguments, and the fields of jobs_are.
-jobs_rows() {
-  local root words lines errors reports
-  while IFS='|' read -r root words lines errors reports; do
-    program_make "$root"
-    jobs_are "$words" "$lines" "$errors" "$reports" "$root"
-  done
-}
-
 # ---- the forms of an answer
 
-jobs_rows <<'ROWS'
+program_answers <<'ROWS'
 x/|plan --since 2024-03-31T00:00:00Z --until 2024-04-01T00:00:00Z|agenda 2 UTC>2024-03-31T00:00:00+00:00>2024-04-01T00:00:00+00:00>0||
 x/|plan --utc --since 2024-03-31T00:00:00Z --until 2024-04-01T00:00:00Z|agenda 2>2024-03-31T00:00:00Z>2024-04-01T00:00:00Z>0||
 x/|upcoming --after 2024-03-31T00:00:00Z|||
@@ -47,7 +22,7 @@ S/u=@daily\x20a\n|quiet --utc --least 43200 --since 2024-03-31T06:00:00Z --until
 ROWS
 
 # The default question is `upcoming`, whatever option comes first.
-jobs_rows <<'ROWS'
+program_answers <<'ROWS'
 S/u=@daily\x20a\n|--after 2024-03-31T00:00:00Z|2024-04-01T00:00:00+00:00>u:1>a||
 S/u=@daily\x20a\n|--utc --after 2024-03-31T00:00:00Z|2024-04-01T00:00:00Z>u:1>a||
 S/u=0\x200\x2030\x202\x20*\x20a\n||none>u:1>a||
@@ -55,7 +30,7 @@ ROWS
 
 # ---- zones
 
-jobs_rows <<'ROWS'
+program_answers <<'ROWS'
 etc/localtime>/usr/share/zoneinfo/CET usr/share/zoneinfo/CET=CET S/u=30\x203\x20*\x20*\x20*\x20a\n|upcoming --after 2024-03-30T12:00:00Z|2024-03-31T03:30:00+02:00>u:1>a||
 etc/localtime=CET S/u=30\x203\x20*\x20*\x20*\x20a\n|upcoming --after 2024-03-31T12:00:00Z|2024-04-01T03:30:00+02:00>u:1>a||
 etc/localtime=CET S/u=30\x203\x20*\x20*\x20*\x20a\n|upcoming --utc --after 2024-03-31T12:00:00Z|2024-04-01T03:30:00Z>u:1>a||
@@ -64,7 +39,7 @@ etc/localtime/ S/u=@daily\x20a\n|upcoming --zone UTC --after 2024-03-31T00:00:00
 ROWS
 
 # The zones of events: their files are below the root, or else on this machine. EAST is UTC+5, which no zone of these names is.
-jobs_rows <<'ROWS'
+program_answers <<'ROWS'
 *a.timer U/a.timer=[Timer]\nOnCalendar=02:30\x20No/Where\n usr/share/zoneinfo/No/Where=EAST|upcoming --utc --after 2024-03-31T00:00:00Z|2024-03-31T21:30:00Z>a.timer>a.service||
 *a.timer U/a.timer=[Timer]\nOnCalendar=02:30\x20No/Where\n usr/share/zoneinfo/No/Where=EAST|plan --utc --since 2024-03-31T00:00:00Z --until 2024-04-01T00:00:00Z|agenda 2>2024-03-31T00:00:00Z>2024-04-01T00:00:00Z>1;2024-03-31T21:30:00Z>a.timer>a.service||
 *a.timer U/a.timer=[Timer]\nOnCalendar=02:30\x20No/Where\n usr/share/zoneinfo/No/Where=EAST|quiet --utc --nominal --since 2024-03-31T00:00:00Z --until 2024-03-31T22:00:00Z|2024-03-31T00:00:00Z>2024-03-31T21:30:00Z>77400;2024-03-31T21:30:00Z>2024-03-31T22:00:00Z>1800||
@@ -78,7 +53,7 @@ etc/localtime=CET *a.timer U/a.timer=[Timer]\nOnCalendar=02:30\x20No/Where\nOnCa
 *a.timer U/a.timer=[Timer]\nOnCalendar=02:30\x20No/Where\n usr/share/zoneinfo/No/Where/|upcoming --utc --after 2024-03-31T00:00:00Z|none>a.timer>a.service|root/usr/lib/systemd/system/a.timer:2: error: time zone in '02:30 No/Where': unknown [Zone]|
 ROWS
 if [ -r /usr/share/zoneinfo/Asia/Tokyo ]; then
-  jobs_rows <<'ROWS'
+  program_answers <<'ROWS'
 *a.timer U/a.timer=[Timer]\nOnCalendar=02:30\x20Asia/Tokyo\n|upcoming --utc --after 2024-03-31T00:00:00Z|2024-03-31T17:30:00Z>a.timer>a.service||
 *a.timer U/a.timer=[Timer]\nOnCalendar=02:30\x20Asia/Tokyo\n usr/share/zoneinfo/Asia/Tokyo/|upcoming --utc --after 2024-03-31T00:00:00Z|2024-03-31T17:30:00Z>a.timer>a.service||
 *a.timer U/a.timer=[Timer]\nOnCalendar=02:30\x20Asia/Tokyo\n usr/share/zoneinfo/Asia/Tokyo=EAST|upcoming --zone Asia/Tokyo --after 2024-03-31T00:00:00Z|2024-04-01T06:30:00+09:00>a.timer>a.service||
@@ -89,7 +64,7 @@ fi
 
 # ---- timers, and their delays
 
-jobs_rows <<'ROWS'
+program_answers <<'ROWS'
 *a.timer U/a.timer=DAILY|upcoming --utc --after 2024-03-31T00:00:00Z|2024-04-01T00:00:00Z>a.timer>a.service||
 *a.timer U/a.timer=[Timer]\nOnCalendar=daily\nRandomizedDelaySec=1h\nAccuracySec=1s\n|upcoming --utc --after 2024-03-31T00:00:00Z|2024-04-01T00:00:00Z>a.timer>a.service||
 *a.timer U/a.timer=[Timer]\nOnCalendar=daily\nRandomizedDelaySec=1h\nAccuracySec=1s\n|upcoming --utc --delays --after 2024-03-31T00:00:00Z|2024-04-01T00:00:00Z>2024-04-01T01:00:01Z>a.timer>a.service||
@@ -100,7 +75,7 @@ U/a.timer=DAILY|plan --utc --all --since 2024-04-01T00:00:00Z --upto 2024-04-02T
 ROWS
 
 # The accuracy of timers that set none is one minute, unless systemd's configuration has another (systemd-system.conf(5)).
-jobs_rows <<'ROWS'
+program_answers <<'ROWS'
 *a.timer U/a.timer=DAILY|upcoming --utc --delays --after 2024-03-31T00:00:00Z|2024-04-01T00:00:00Z>2024-04-01T00:01:00Z>a.timer>a.service||
 *a.timer U/a.timer=DAILY etc/systemd/system.conf=[Manager]\nDefaultTimerAccuracySec=1h\n|upcoming --utc --delays --after 2024-03-31T00:00:00Z|2024-04-01T00:00:00Z>2024-04-01T01:00:00Z>a.timer>a.service||
 *a.timer U/a.timer=DAILY etc/systemd/system.conf=[Manager]\nDefaultTimerAccuracySec=1h\n|plan --utc --delays --since 2024-04-01T00:00:00Z --until 2024-04-02T00:00:00Z|agenda 3>2024-04-01T00:00:00Z>2024-04-02T00:00:00Z>1;2024-04-01T00:00:00Z>2024-04-01T01:00:00Z>a.timer>a.service||
@@ -118,7 +93,7 @@ ROWS
 
 # A timer that has a monotonic setting and no event is reported by its file, once, after anacron and timers without a unit, and
 # before the jobs of at and the timers of users.
-jobs_rows <<'ROWS'
+program_answers <<'ROWS'
 *a.timer U/a.timer=[Timer]\nOnBootSec=5\n|upcoming --utc --after 2024-03-31T00:00:00Z|none>a.timer>a.service||monotonic U/a.timer
 *a.timer U/a.timer=[Timer]\nOnBootSec=5\n|plan --utc --since 2024-04-01T00:00:00Z --until 2024-04-02T00:00:00Z|agenda 2>2024-04-01T00:00:00Z>2024-04-02T00:00:00Z>0||monotonic U/a.timer
 *a.timer U/a.timer=[Timer]\nOnBootSec=5\n|quiet --utc --since 2024-04-01T00:00:00Z --until 2024-04-01T01:00:00Z|2024-04-01T00:00:00Z>2024-04-01T01:00:00Z>3600||monotonic U/a.timer
@@ -138,7 +113,7 @@ ROWS
 # ---- what is skipped
 
 # An error has the path and the line of the file that it is in, and the other jobs are planned.
-jobs_rows <<'ROWS'
+program_answers <<'ROWS'
 S/u=x\n@daily\x20a\n|upcoming --utc --after 2024-03-31T00:00:00Z|2024-04-01T00:00:00Z>u:2>a|root/var/spool/cron/crontabs/u:1: error: expected NAME=VALUE, or five fields and a command [BadSetting]|
 *a.timer U/a.timer=DAILY E/a.timer.d/x.conf=\n[Timer]\nOnCalendar=24:00\n S/u=@daily\x20a\n|upcoming --utc --after 2024-03-31T00:00:00Z|2024-04-01T00:00:00Z>u:1>a;2024-04-01T00:00:00Z>a.timer>a.service|root/etc/systemd/system/a.timer.d/x.conf:3: error: hour in '24:00': out of range 0-23 [OutOfRange]|
 C/a/ S/u=@daily\x20a\n|upcoming --utc --after 2024-03-31T00:00:00Z|2024-04-01T00:00:00Z>u:1>a||C/a not readable
@@ -146,7 +121,7 @@ C/a/ S/u=@daily\x20a\n|upcoming --utc --after 2024-03-31T00:00:00Z|2024-04-01T00
 ROWS
 
 # With --strict the first error stops the answer. What is reported of the machine stays.
-jobs_rows <<'ROWS'
+program_answers <<'ROWS'
 S/u=x\n@daily\x20a\ny\n|upcoming --strict --utc --after 2024-03-31T00:00:00Z||root/var/spool/cron/crontabs/u:1: error: expected NAME=VALUE, or five fields and a command [BadSetting]|
 S/u=x\n@daily\x20a\ny\n|--strict --after 2024-03-31T00:00:00Z||root/var/spool/cron/crontabs/u:1: error: expected NAME=VALUE, or five fields and a command [BadSetting]|
 S/u=x\n@daily\x20a\ny\n|plan --strict --limit 0 --since 2024-03-31T00:00:00Z --until 2024-04-01T00:00:00Z||root/var/spool/cron/crontabs/u:1: error: expected NAME=VALUE, or five fields and a command [BadSetting]|
@@ -158,7 +133,7 @@ S/u=@daily\x20a\n|upcoming --strict --utc --after 2024-03-31T00:00:00Z|2024-04-0
 ROWS
 
 machine_has_cron=no
-jobs_rows <<'ROWS'
+program_answers <<'ROWS'
 S/u=@daily\x20a\n|upcoming --utc --after 2024-03-31T00:00:00Z|2024-04-01T00:00:00Z>u:1>a||cron
 S/u=x\n|upcoming --utc --after 2024-03-31T00:00:00Z||root/var/spool/cron/crontabs/u:1: error: expected NAME=VALUE, or five fields and a command [BadSetting]|cron
 ROWS

@@ -229,6 +229,31 @@ program_sources() {
   done
 }
 
+# Compares what the present root answers to the arguments $1 with the lines $2, in which `;` is a newline and `>` a tab, the
+# errors $3, with `;` between them, and the lines $4 as in program_lines. The root has the name $5.
+program_answers_are() {
+  local wanted errors words
+  local text=${2//;/$'\n'}
+  text=${text//>/$tab}
+  printf '%s' "${text:+$text$'\n'}" >"$work/out.wanted"
+  program_lines "$4"
+  errors=${3//;/$'\n'}
+  printf '%s' "${errors:+$errors$'\n'}" >>"$work/err.wanted"
+  [ -z "$errors" ] || wanted=1
+  IFS=' ' read -r -a words <<<"$1"
+  program_run "${words[@]}" --root root
+  program_compare "$1 of '$5'" "$work/out.wanted" "$work/err.wanted" "$wanted"
+}
+
+# Rows from standard input: a root, arguments, and the fields of program_answers_are.
+program_answers() {
+  local root words lines errors reports
+  while IFS='|' read -r root words lines errors reports; do
+    program_make "$root"
+    program_answers_are "$words" "$lines" "$errors" "$reports" "$root"
+  done
+}
+
 # Rows from standard input: arguments, with bars between them, that are usage errors: nothing is written to standard
 # output. The root exists.
 program_usage() {
