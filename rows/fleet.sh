@@ -2,34 +2,31 @@
 # Rows of examples/fleet/fleet.sh, which plans many machines: by xargs, and by GNU parallel if it is installed.
 
 # shellcheck source=/dev/null
-. "$top/rows/lib/machine.sh"
+. "$top/rows/lib/program.sh"
 
 fleet_folder=$machine_folder/fleet
 fleet_programs=$machine_folder/fleet-programs
 fleet_script=$machine_folder/fleet.sh
-# The directory of agenda-machine, next to the program of the other rows, or next to the stub.
+fleet_temporary=$machine_folder/fleet-temporary
+# The directory of agenda: the program of the other rows, or the stub.
 fleet_bin=$machine_folder/whole
 
 # Makes a directory with only the programs that the script needs, so that it finds no GNU parallel, and the
-# stub for agenda. The stub answers with an agenda without lines. If it gets a system's crontab, it runs that
-# as a script.
+# stub for agenda. The stub answers with an agenda without lines. If the root has a crontab, it runs that as a
+# script.
 fleet_begin() {
   local name
   cp -- "$top/examples/fleet/fleet.sh" "$fleet_script"
-  mkdir "$fleet_folder" "$fleet_programs" "$machine_folder/fleet-parallel"
-  for name in awk bash cat date env find head ln mkdir mktemp nproc readlink rm sleep sort tail wc; do
+  mkdir "$fleet_folder" "$fleet_programs" "$fleet_temporary" "$machine_folder/fleet-parallel" "$machine_folder/fleet-stub"
+  for name in awk bash cat env mkdir mktemp nproc readlink rm sleep sort; do
     ln -s "$(command -v "$name")" "$fleet_programs/$name" || refuse "no program $name"
   done
   fleet_note xargs "$fleet_programs"
-  mkdir -p "$machine_folder/fleet-stub/lib"
-  cp -- "$top/bin/agenda-machine" "$machine_folder/fleet-stub/"
-  cp -R -- "$top/bin/lib/machine" "$machine_folder/fleet-stub/lib/"
   cat >"$machine_folder/fleet-stub/agenda" <<'STUB'
 #!/usr/bin/env bash
 printf 'agenda 2\t2024-01-01T00:00:00Z\t2024-01-02T00:00:00Z\t0\n'
-while [ $# != 0 ]; do
-  [ "$1" != --system-crontab ] || . "$2"
-  shift
+for word in "$@"; do
+  [[ $word != --root=* || ! -e ${word#*=}/etc/crontab ]] || . "${word#*=}/etc/crontab"
 done
 STUB
   chmod 755 "$machine_folder/fleet-stub/agenda"
@@ -48,7 +45,7 @@ STUB
 # Makes the machine $1 from the description $2.
 fleet_make() {
   local machine_root="fleet/$1"
-  machine_make "$2"
+  program_make "$2"
 }
 
 # Runs the script with the arguments $@, by the program in fleet_by.
@@ -56,8 +53,8 @@ fleet_run() {
   local path=$fleet_bin:$fleet_programs
   [ "$fleet_by" = xargs ] || path=$fleet_bin:$machine_folder/fleet-parallel:$PATH
   rm -f "$machine_folder/fleet.by"
-  TMPDIR=$machine_temporary run_in "$fleet_folder" "${machine_by[@]}" env "PATH=$path" bash "$fleet_script" "$@"
-  machine_left=$(ls -A "$machine_temporary")
+  TMPDIR=$fleet_temporary run_in "$fleet_folder" "${machine_by[@]}" env "PATH=$path" bash "$fleet_script" "$@"
+  fleet_left=$(ls -A "$fleet_temporary")
 }
 
 # Compares the last run, with the name $1, with the files out.wanted and err.wanted and the status $2. It must
@@ -67,7 +64,7 @@ fleet_compare() {
     diff -a -u --label "standard output wanted" --label "standard output" -- "$work/out.wanted" "$work/out"
     diff -a -u --label "standard error wanted" --label "standard error" -- "$work/err.wanted" "$work/err"
     [ "$status" = "$2" ] || echo "status $status, and not $2"
-    [ -z "$machine_left" ] || echo "left in the temporary folder: $machine_left"
+    [ -z "$fleet_left" ] || echo "left in the temporary folder: $fleet_left"
     [ "$(cat "$machine_folder/fleet.by" 2>/dev/null)" = "$3" ] || echo "planned by another program than '$3'"
   } >"$work/told" 2>&1
   count "fleet by $fleet_by: $1"
@@ -145,8 +142,8 @@ LINES
 05:00|one|system:1|root f
 LINES
   fleet_day "what is left out, and a zone" 0 one left <<'LINES'
-! left: agenda-machine: the zone is unknown; rules are read as UTC
-! left: agenda-machine: left out left/etc/cron.d/a.b: bad name
+! left: agenda: skipped left/etc/cron.d/a.b: bad name
+! left: agenda: the zone of left is unknown: rules are read as UTC
 01:00|one|system:1|root b
 01:00|one|system:2|root a
 03:00|one|system:3|root c
@@ -158,12 +155,12 @@ LINES
 fleet_faults() {
   local fleet_words=(--limit 1439)
   fleet_day "machines that fail in five ways" 1 gone one file bad many unread sub/one <<'LINES'
-! gone: agenda-machine: gone: no folder
-! file: agenda-machine: file: no folder
+! gone: agenda: gone: not a directory
+! file: agenda: file: not a directory
 ! bad: bad/etc/cron.d/c:1: error: hour '24': out of range 0-23 [OutOfRange]
 ! bad: bad/var/spool/cron/crontabs/d:1: error: expected NAME=VALUE, or five fields and a command [BadSetting]
-! many: agenda: plan: TooMany
-! unread: agenda-machine: left out unread/etc/cron.d/a: not readable
+! many: agenda: more than 1439 starts: give a shorter span, or --limit N [TooMany]
+! unread: agenda: skipped unread/etc/cron.d/a: not readable
 00:00|bad|system:1|root x
 01:00|one|system:1|root b
 01:00|one|system:2|root a
@@ -172,8 +169,8 @@ fleet_faults() {
 06:00|unread|b:1|root x
 LINES
   fleet_day "machines that fail alone" 1 gone many <<'LINES'
-! gone: agenda-machine: gone: no folder
-! many: agenda: plan: TooMany
+! gone: agenda: gone: not a directory
+! many: agenda: more than 1439 starts: give a shorter span, or --limit N [TooMany]
 LINES
   fleet_day "folders that name no machine" 1 '' sub/one $'a\tb' / $'a\nb' <<'LINES'
 ! '': no name of a machine
@@ -197,13 +194,14 @@ LINES
   fleet_compare "as many starts as the limit" 0 "$fleet_by"
 }
 
-# A directory that can't be read is an error if agenda-machine finds nothing in it.
+# A directory that can't be read is an error.
 fleet_locked() {
   local machine_by=() fleet_bin=$machine_folder/fleet-stub
   if ! machine_as_nobody; then
     echo "fleet: skipped a directory without rights, since setpriv can't drop those of root here"
     return
   fi
+  chmod 1777 "$fleet_temporary"
   fleet_make locked 'etc/crontab=@daily\x20root\x20a\n'
   chmod 000 "$fleet_folder/locked"
   fleet_day "a folder that may not be read" 1 locked well <<'LINES'
@@ -267,7 +265,7 @@ fleet_refused() {
   done
 }
 
-# The times are those of agenda-machine, and all machines get the same ones.
+# The times are those of `agenda machine`, and all machines get the same ones.
 fleet_moments() {
   fleet_want <<'LINES'
 05:00|one|system:1|root f
@@ -293,9 +291,9 @@ fleet_stubs() {
 ! noisy: c
 07:00|well|x|y|z
 LINES
-  # the process of the machine, and that of agenda-machine, are killed
+  # agenda is killed
   # shellcheck disable=SC2016
-  fleet_make 'killed' 'etc/crontab=kill\x20-9\x20"$PPID"\nsleep\x200.2\n'
+  fleet_make 'killed' 'etc/crontab=kill\x20-9\x20$$\nsleep\x200.2\n'
   fleet_want <<<'07:00|well|x|y|z'
   fleet_run 2024-01-01T00:00:00Z 2024-01-02T00:00:00Z killed well
   sed 's/^\(killed: \).*/\1/' "$work/err" | uniq >"$work/err.one"
@@ -320,7 +318,7 @@ fleet_signalled() {
   machine_by=()
   [ "$status" = $((128 + $(kill -l "$1"))) ] || tell "status $status"
   [ ! -s "$work/out" ] || tell "something on standard output"
-  [ -z "$machine_left" ] || tell "left in the temporary folder: $machine_left"
+  [ -z "$fleet_left" ] || tell "left in the temporary folder: $fleet_left"
   process=$(cat "$machine_folder/fleet.sleeper")
   # it was sent the signal; otherwise it sleeps for 20 s
   for _ in {1..100}; do
@@ -339,7 +337,7 @@ fleet_streams() {
     machine_by=()
     [ "$status" = 3 ] || tell "status $status"
     [ -s "$work/err" ] || tell "nothing on standard error"
-    [ -z "$machine_left" ] || tell "left in the temporary folder: $machine_left"
+    [ -z "$fleet_left" ] || tell "left in the temporary folder: $fleet_left"
     count "fleet by $fleet_by: a device that is full"
   fi
 }
@@ -360,8 +358,8 @@ DAY|DAY>2>Usage: fleet.sh [--limit COUNT] SINCE UPTO DIRECTORY ..
 --limit|5|DAY|DAY>2>Usage: fleet.sh [--limit COUNT] SINCE UPTO DIRECTORY ..
 --limit>2>Usage: fleet.sh [--limit COUNT] SINCE UPTO DIRECTORY ..
 --help|DAY|DAY|one>2>Usage: fleet.sh [--limit COUNT] SINCE UPTO DIRECTORY ..
-frob|DAY|one|sub/one>2>agenda-machine: --since: not a time: 'frob' (examples: 'tomorrow 02:00', +8h, 2025-03-30T20:00:00Z)
-DAY|2023-12-31T00:00:00Z|one|sub/one>1>agenda: span: Backwards
+frob|DAY|one|sub/one>1>agenda: --since: not a time: 'frob' (such as 'tomorrow 02:00', '+8h', '2026-12-01 22:00') [BadTime]
+DAY|2023-12-31T00:00:00Z|one|sub/one>1>agenda: --until is before --since (2024-01-01T00:00:00+00:00) [Backwards]
 ROWS
   fleet_stubs
   for signal in HUP INT QUIT TERM; do

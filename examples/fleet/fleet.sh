@@ -4,15 +4,15 @@
 #
 # Usage: fleet.sh [--limit COUNT] SINCE UPTO DIRECTORY ..
 #
-# SINCE and UPTO are times as agenda-machine reads them. COUNT is the maximum number of starts of a machine. Texts of
-# times are read in UTC, and rules in the time zone of their machine. A line has the time, the machine, the job and
-# what it runs, separated by tabs. There is no header. A machine has the name of its directory. Lines with the same
-# time are in the order of the directories, and lines of one machine stay in its order.
+# SINCE and UPTO are times as `agenda machine plan` reads them. COUNT is the maximum number of starts of a machine. Texts
+# of times are read in UTC, and rules in the time zone of their machine. A line has the time in UTC, the machine, the
+# job and what it runs, separated by tabs. There is no header. A machine has the name of its directory. Lines with the
+# same time are in the order of the directories, and lines of one machine stay in its order.
 #
 # Messages about a machine go to standard error, each line after the machine's name. What is invalid or can't be read
 # is skipped, and the agenda has the other starts of the machine. If a machine has no answer, a line says why. The
 # status is 1 if there was an error on any machine, 2 for a usage error, and 3 if the answers can't be kept or merged.
-# An error of the span or of the limit ends the script with the status of agenda-machine.
+# An error of the span or of the limit ends the script with the status of agenda.
 set -uf -o pipefail
 export LC_ALL=C
 
@@ -32,13 +32,37 @@ find_name() {
   return 1
 }
 
-# Writes the agenda of the machine in the directory $1, with its name in each line and without the header. Makes the
-# file $2 if there is a header: then the machine has an answer, even if something was skipped.
+# Writes the agenda of the machine in the directory $1, with its name in each line, with times in UTC and without the header.
+# Makes the file $2 if there is a header: then the machine has an answer, even if something was skipped.
 write_lines() {
-  agenda-machine --root "$1" plan --limit "$limit" --since "$since" --upto "$upto" |
-    NAME=$name HEADED=$2 awk '
+  agenda machine plan --root="$1" --text --limit="$limit" --since="$since" --until="$upto" |
+    NAME=$name HEADED=$2 awk -F '\t' '
+      # Returns the days from 1970-01-01 to a date, where a year begins in March.
+      function days(year, month, day) {
+        if (month < 3) { year--; month += 12 }
+        return 365 * year + int(year / 4) - int(year / 100) + int(year / 400) + int((153 * month - 457) / 5) + day - 719469
+      }
+      # Returns the local time, such as 2024-06-15T03:00:00+02:00, in UTC.
+      function utc(time, offset, second, day, year, month) {
+        if (time ~ /Z$/) return time
+        offset = substr(time, 21, 2) * 3600 + substr(time, 24, 2) * 60 + substr(time, 27, 2)
+        if (substr(time, 20, 1) == "+") offset = -offset
+        second = substr(time, 12, 2) * 3600 + substr(time, 15, 2) * 60 + substr(time, 18, 2) + offset
+        day = substr(time, 1, 10)
+        if (second < 0 || second >= 86400) {
+          day = days(substr(day, 1, 4), substr(day, 6, 2) + 0, substr(day, 9)) + (second < 0 ? -1 : 1)
+          second += second < 0 ? 86400 : -86400
+          year = 1970 + int(day / 365.2425)
+          while (days(year + 1, 1, 1) <= day) year++
+          while (days(year, 1, 1) > day) year--
+          for (month = 12; days(year, month, 1) > day; month--) continue
+          day = sprintf("%04d-%02d-%02d", year, month, day - days(year, month, 1) + 1)
+        }
+        return day sprintf("T%02d:%02d:%02dZ", int(second / 3600), int(second / 60) % 60, second % 60)
+      }
       NR == 1 { printf "" >(ENVIRON["HEADED"]); next }
-      { print substr($0, 1, 21) ENVIRON["NAME"] substr($0, 21) }'
+      $1 != last { last = $1; shown = utc($1) }
+      { print shown "\t" ENVIRON["NAME"] substr($0, length($1) + 1) }'
 }
 
 # Writes the messages about a machine, which are on standard input. If there are none and its plan didn't end with
@@ -132,7 +156,7 @@ run() {
 # machine without files.
 settle_span() {
   local header
-  header=$(agenda-machine --root "$work/none" plan --limit "$limit" --since "$since" --upto "$upto") || exit
+  header=$(agenda machine plan --utc --text --root="$work/none" --limit="$limit" --since="$since" --until="$upto") || exit
   IFS=$'\t' read -r _ since upto _ <<<"$header"
 }
 
