@@ -224,21 +224,23 @@ package_runs() {
   compare "$1 --version" "$work/out.wanted" /dev/null 0
   run_in "$package_dir" "$1" plan "${day[@]}" --crontab jobs
   compare_lines "$1 plan" "2024-01-01T01:30:00Z${tab}cron:1${tab}dump-database"$'\n'
-  run_in "$package_dir" env -i PATH=/usr/bin:/bin "$2" --root "$root" sources
+  run_in "$package_dir" env -i PATH=/usr/bin:/bin "$2" sources --root "$root"
   compare_texts "$2 sources" \
     "system-crontab${tab}crontab${tab}$root/etc/crontab"$'\n'"timer${tab}a.timer${tab}$root/usr/lib/systemd/system/a.timer"$'\n' '' 0
-  run_in "$package_dir" env -i PATH=/usr/bin:/bin "$2" --root "$root" plan "${day[@]}"
+  run_in "$package_dir" env -i PATH=/usr/bin:/bin "$2" plan --utc --root "$root" "${day[@]}"
   compare_lines "$2 plan" \
     "2024-01-01T03:00:00Z${tab}a.timer${tab}a.service"$'\n'"2024-01-01T04:00:00Z${tab}system:1${tab}root b"$'\n'
 }
 
-# Makes what the rows read: a crontab, and a machine's root with cron, a crontab and an enabled timer.
+# Makes what the rows read: a crontab, and a machine's root with cron, a crontab and a timer that the boot starts.
 package_make_files() {
   local units=$package_dir/root/usr/lib/systemd/system enabled=$package_dir/root/etc/systemd/system/timers.target.wants
   mkdir -p "$package_dir" "$units" "$enabled" "$package_dir/root/usr/sbin"
   : >"$package_dir/root/usr/sbin/cron"
   echo '30 1 * * * dump-database' >"$package_dir/jobs"
   echo '0 4 * * * root b' >"$package_dir/root/etc/crontab"
+  printf '[Unit]\nWants=timers.target\n' >"$units/default.target"
+  printf '[Unit]\n' | tee "$units/timers.target" >"$units/a.service"
   printf '[Timer]\nOnCalendar=3:00\n' >"$units/a.timer"
   ln -s /usr/lib/systemd/system/a.timer "$enabled/a.timer"
 }
@@ -614,14 +616,14 @@ ROWS
   package_install --remove
   {
     cat "$work/paths"
-    grep -E '/share/agenda/(.*/)?$|/share/doc/agenda/.*/$' "$work/rows" | grep -v '/examples/$' | sed "s|^... \(.*\)/\$|$dest/\1|"
+    grep -E '/share/doc/agenda/.*/$' "$work/rows" | grep -v '/examples/$' | sed "s|^... \(.*\)/\$|$dest/\1|"
   } | sed 's/^/removed /' | sort >"$work/out.wanted"
   compare "bin/install --remove" "$work/out.wanted" /dev/null 0
   rm "$dest/usr/local/share/doc/agenda/examples/mine"
   package_install --remove /usr/local/
   compare_texts "bin/install --remove once more" \
     "removed $dest/usr/local/share/doc/agenda"$'\n'"removed $dest/usr/local/share/doc/agenda/examples"$'\n' '' 0
-  package_shows "what bin/install --remove leaves" "$(grep '/$' "$work/rows" | grep -vE '/share/(doc/)?agenda/')"$'\n' < <(package_dest)
+  package_shows "what bin/install --remove leaves" "$(grep '/$' "$work/rows" | grep -v '/share/doc/agenda/')"$'\n' < <(package_dest)
 }
 
 # Each row: the message, and the arguments. `''` is an empty one.
@@ -634,8 +636,8 @@ Installs agenda and agenda-machine below PREFIX, with their manual pages, comple
 /usr/local by default. If DESTDIR is set, it is put before each path. AGENDA_PROGRAM names the program. Without it, the
 program is the one that bin/build proves and builds.
 
---remove removes the files. It also removes PREFIX/share/agenda, PREFIX/share/doc/agenda and the directories below them,
-if they are empty then. All other directories stay.
+--remove removes the files. It also removes PREFIX/share/doc/agenda and the directories below it, if they are empty then.
+All other directories stay.
 
 If PREFIX is neither /usr nor /usr/local, let the shells find the completions: for bash and fish, add PREFIX/share to
 XDG_DATA_DIRS; for zsh, add PREFIX/share/zsh/site-functions to fpath.
@@ -801,18 +803,6 @@ package_lists "the files of the archive" "$package_archive/" share/doc/agenda <<
 755 bin/agenda-machine
 644 README
 755 share/
-755 share/agenda/
-755 share/agenda/machine/
-644 share/agenda/machine/help.sh
-644 share/agenda/machine/links.sh
-644 share/agenda/machine/moments.sh
-644 share/agenda/machine/others.sh
-644 share/agenda/machine/sources.sh
-644 share/agenda/machine/table.awk
-644 share/agenda/machine/table.sh
-644 share/agenda/machine/texts.sh
-644 share/agenda/machine/units.sh
-644 share/agenda/machine/zone.sh
 755 share/bash-completion/
 755 share/bash-completion/completions/
 644 share/bash-completion/completions/agenda
@@ -839,16 +829,6 @@ ROWS
 package_unpacks
 package_same "$package_dir/un packed/moved to" <<'ROWS'
 bin/agenda-machine bin/agenda-machine
-bin/lib/machine/help.sh share/agenda/machine/help.sh
-bin/lib/machine/links.sh share/agenda/machine/links.sh
-bin/lib/machine/moments.sh share/agenda/machine/moments.sh
-bin/lib/machine/others.sh share/agenda/machine/others.sh
-bin/lib/machine/sources.sh share/agenda/machine/sources.sh
-bin/lib/machine/table.awk share/agenda/machine/table.awk
-bin/lib/machine/table.sh share/agenda/machine/table.sh
-bin/lib/machine/texts.sh share/agenda/machine/texts.sh
-bin/lib/machine/units.sh share/agenda/machine/units.sh
-bin/lib/machine/zone.sh share/agenda/machine/zone.sh
 bin/lib/package/copyright share/doc/agenda/copyright
 completions/_agenda share/zsh/site-functions/_agenda
 completions/_agenda-machine share/zsh/site-functions/_agenda-machine
@@ -874,18 +854,6 @@ if ! passed_over "the package" dpkg-deb readelf; then
 755 usr/bin/agenda
 755 usr/bin/agenda-machine
 755 usr/share/
-755 usr/share/agenda/
-755 usr/share/agenda/machine/
-644 usr/share/agenda/machine/help.sh
-644 usr/share/agenda/machine/links.sh
-644 usr/share/agenda/machine/moments.sh
-644 usr/share/agenda/machine/others.sh
-644 usr/share/agenda/machine/sources.sh
-644 usr/share/agenda/machine/table.awk
-644 usr/share/agenda/machine/table.sh
-644 usr/share/agenda/machine/texts.sh
-644 usr/share/agenda/machine/units.sh
-644 usr/share/agenda/machine/zone.sh
 755 usr/share/bash-completion/
 755 usr/share/bash-completion/completions/
 644 usr/share/bash-completion/completions/agenda
@@ -913,16 +881,6 @@ ROWS
   package_fields
   package_same "$package_dir/files" <<'ROWS'
 bin/agenda-machine usr/bin/agenda-machine
-bin/lib/machine/help.sh usr/share/agenda/machine/help.sh
-bin/lib/machine/links.sh usr/share/agenda/machine/links.sh
-bin/lib/machine/moments.sh usr/share/agenda/machine/moments.sh
-bin/lib/machine/others.sh usr/share/agenda/machine/others.sh
-bin/lib/machine/sources.sh usr/share/agenda/machine/sources.sh
-bin/lib/machine/table.awk usr/share/agenda/machine/table.awk
-bin/lib/machine/table.sh usr/share/agenda/machine/table.sh
-bin/lib/machine/texts.sh usr/share/agenda/machine/texts.sh
-bin/lib/machine/units.sh usr/share/agenda/machine/units.sh
-bin/lib/machine/zone.sh usr/share/agenda/machine/zone.sh
 bin/lib/package/copyright usr/share/doc/agenda/copyright
 completions/_agenda usr/share/zsh/vendor-completions/_agenda
 completions/_agenda-machine usr/share/zsh/vendor-completions/_agenda-machine
@@ -980,18 +938,6 @@ package_installed <<'ROWS'
 755 usr/local/bin/agenda
 755 usr/local/bin/agenda-machine
 755 usr/local/share/
-755 usr/local/share/agenda/
-755 usr/local/share/agenda/machine/
-644 usr/local/share/agenda/machine/help.sh
-644 usr/local/share/agenda/machine/links.sh
-644 usr/local/share/agenda/machine/moments.sh
-644 usr/local/share/agenda/machine/others.sh
-644 usr/local/share/agenda/machine/sources.sh
-644 usr/local/share/agenda/machine/table.awk
-644 usr/local/share/agenda/machine/table.sh
-644 usr/local/share/agenda/machine/texts.sh
-644 usr/local/share/agenda/machine/units.sh
-644 usr/local/share/agenda/machine/zone.sh
 755 usr/local/share/bash-completion/
 755 usr/local/share/bash-completion/completions/
 644 usr/local/share/bash-completion/completions/agenda

@@ -36,9 +36,6 @@ installed_files() {
   for file in agenda agenda-machine agenda-steps; do
     printf '644\t%s\t%s\n' "$top/man/$file.1" "$share/man/man1/$file.1"
   done
-  for file in "$top"/bin/lib/machine/*; do
-    printf '644\t%s\t%s\n' "$file" "$share/agenda/machine/${file##*/}"
-  done
   for file in $installed_pages; do
     printf '644\t%s\t%s\n' "$top/docs/$file" "$share/doc/agenda/$file"
   done

@@ -45,7 +45,7 @@ report_dead_links() {
 print_prose() {
   local pages scripts
   mapfile -t pages < <(markdown_pages examples/)
-  mapfile -t scripts < <(grep -d skip -slE '^say_(usage|help)[a-z_]*\(\)' bin/* bin/lib/machine/*)
+  mapfile -t scripts < <(grep -d skip -slE '^say_(usage|help)[a-z_]*\(\)' bin/*)
   document_awk -f "$document_parts/markdown.awk" -f "$document_parts/texts-markdown.awk" README.md "${pages[@]}"
   document_awk -f "$document_parts/texts-mdoc.awk" man/*.1
   document_awk -f "$document_parts/texts-help.awk" crates/agenda_arguments/src/command/help.rt "${scripts[@]}"
