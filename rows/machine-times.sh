@@ -1,4 +1,4 @@
-# shellcheck shell=bash disable=SC2154,SC2034
+# shellcheck shell=bash disable=SC2154,SC2034,SC2119,SC2120
 # Rows of the times and lengths that questions about a machine read, at times at which the clock of the program stands still: on
 # both sides of clock changes, in UTC and in zones of this machine. Expected times are worked out by hand.
 

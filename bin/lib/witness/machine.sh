@@ -1,8 +1,9 @@
 # shellcheck shell=bash disable=SC2154
-# Lets agenda-machine find the crontabs and timers of some Debian packages, all below one root, and lets
-# agenda plan a day of them. bin/witness sources this file.
+# Lets agenda find the crontabs and timers of some Debian packages, all below one root, and plan a day of them.
+# bin/witness sources this file.
 
-# Puts the files of the packages below the root.
+# Puts the files of the packages below the root. Its boot starts each target that a timer is wanted by, and each timer has
+# a service.
 unpack_machine() {
   local deb
   mkdir -p "$machine"
@@ -11,6 +12,22 @@ unpack_machine() {
     dpkg-deb --fsys-tarfile "$deb" | tar -x -C "$machine" --wildcards './etc/crontab' './etc/cron.d/*' '*/systemd/system/*.timer' \
       '*/systemd/system/*.timer.d/*' '*/systemd/system/*.wants/*' 2>/dev/null
   done
+  start_targets
+}
+
+# Makes default.target, which wants the targets of all timers, those targets, and a service for each timer.
+start_targets() {
+  local path name target units=$machine/usr/lib/systemd/system
+  mkdir -p -- "$units"
+  echo '[Unit]' >"$units/default.target"
+  while IFS= read -r path; do
+    name=${path##*/}
+    echo '[Service]' >"$units/${name%.timer}.service"
+    while IFS= read -r target; do
+      echo '[Unit]' >"$units/$target"
+      echo "Wants=$target" >>"$units/default.target"
+    done < <(sed -nE 's/^(WantedBy|RequiredBy)=//p' "$path" | tr -s ' \r' '\n' | grep '[.]target$')
+  done < <(shipped_timers others && shipped_timers templates)
 }
 
 # Prints the paths below the root of the packages' timers: only templates if $1 is `templates`, and otherwise
@@ -32,16 +49,15 @@ enable_timers() {
   done < <(shipped_timers others && shipped_timers templates)
 }
 
-# Complains about paths of standard input that agenda-machine neither lists, in the file $1, nor reports as
-# skipped, in the file $2.
+# Complains about paths of standard input that agenda neither lists, in the file $1, nor reports, in the file $2.
 tell_unnamed() {
   local path
   while IFS= read -r path; do
-    cut -f 3 "$1" | grep -qxF -e "$path" || grep -qF -e "left out $path: " "$2" || echo "not named: ${path#"$machine"}"
+    cut -f 3 "$1" | grep -qxF -e "$path" || grep -qF -e " $path: " "$2" || echo "not named: ${path#"$machine"}"
   done
 }
 
-# Compares what agenda-machine finds with the files of the packages.
+# Compares what agenda finds with the files of the packages.
 compare_machine() {
   local machine=$work/machine path wishes templates
   unpack_machine
@@ -50,11 +66,8 @@ compare_machine() {
     return
   fi
   enable_timers
-  mkdir -p "$work/machine.bin/lib"
-  cp -- "$top/bin/agenda-machine" "$work/machine.bin/" && cp -R -- "$top/bin/lib/machine" "$work/machine.bin/lib/"
-  ln -s "$program" "$work/machine.bin/agenda"
-  "$work/machine.bin/agenda-machine" --root "$machine" --all sources >"$work/all" 2>"$work/all.left" </dev/null
-  "$work/machine.bin/agenda-machine" --root "$machine" sources >"$work/wished" 2>"$work/wished.left" </dev/null
+  "$program" machine sources --root "$machine" --all >"$work/all" 2>"$work/all.left" </dev/null
+  "$program" machine sources --root "$machine" >"$work/wished" 2>"$work/wished.left" </dev/null
   {
     find "$machine/etc/crontab" "$machine/etc/cron.d" -type f -not -name '.*' 2>/dev/null
     shipped_timers others
@@ -70,13 +83,13 @@ compare_machine() {
   templates=$(grep -c '@[.]timer$' "$work/wishes")
   plan_machine
   echo "the packages as one machine: $(wc -l <"$work/all") sources, of which $wishes timers are wished for, $templates of them by a template; \
-$(cat "$work/all.left" "$work/wished.left" | grep ' left out ' | sort -u | wc -l) files are left out; a day has $planned starts"
+$(cat "$work/all.left" "$work/wished.left" | grep '^agenda: skipped ' | sort -u | wc -l) files are left out; a day has $planned starts"
 }
 
 # Lets agenda plan the first day of the month of all of them.
 plan_machine() {
-  "$work/machine.bin/agenda-machine" --root "$machine" --all plan --since "$since" --upto '+1 day' --limit 1000000 \
-    >"$work/planned" 2>"$work/planned.told" </dev/null || tell "the plan of a day: status $?, $(grep -vE '^agenda-machine: (left out|not planned|no cron daemon) ' "$work/planned.told")"
+  "$program" machine plan --root "$machine" --all --since "$since" \
+    >"$work/planned" 2>"$work/planned.told" </dev/null || tell "the plan of a day: status $?, $(grep -vE '^agenda: (skipped|not planned:|no cron daemon) ' "$work/planned.told")"
   planned=$(($(wc -l <"$work/planned") - 1))
   [ "$planned" -gt 0 ] || tell "the plan of a day has no starts"
   count "a day of the packages as one machine"

@@ -3,13 +3,14 @@
 #
 #   file     a file with a setting that systemd rejects and reports
 #   target   a target's file
+#   boot     the file of default.target, which wants the targets
 #   empty    an empty file
 #   folder   a directory
 #   link     a link
 #
 # Links to files are relative to their own directory, because systemd follows a link that begins with `/` out
-# of the root here. Directories that are links aren't made: neither `systemd-analyze --root` nor agenda-machine reads
-# them, but systemd itself does, as boot-roots.awk shows.
+# of the root here. Directories that are links aren't made: `systemd-analyze --root` doesn't read them, but systemd and
+# agenda do, as boot-roots.awk shows.
 
 # Returns a number from 0 up to n, excluded.
 function any(n) {
@@ -96,6 +97,7 @@ function make_common(name) {
   make("target", "usr/lib/systemd/system/x.target")
   make("target", "usr/lib/systemd/system/y.target")
   make("target", "usr/lib/systemd/system/z.target")
+  make("boot", "usr/lib/systemd/system/default.target")
   make("empty", "opt/empty")
   make("file", "opt/unit")
   make("file", "opt/drop-in")

@@ -1,9 +1,9 @@
 # shellcheck shell=bash disable=SC2154
-# Compares what agenda-machine finds below made roots with what systemd loads below them. bin/witness sources this file.
+# Compares what `agenda machine` finds below made roots with what systemd loads below them. bin/witness sources this file.
 #
 # systemd needn't run for it: `systemd-analyze verify` loads what a target enables. Each file of a made root
 # has an event that is rejected, so that the log names each file that is read, in order, and the text with its
-# specifiers expanded.
+# specifiers expanded. Timers start x.target, so none is rejected because its unit is missing.
 
 roots=100
 
@@ -18,9 +18,10 @@ make_roots() {
     if [ -L "$path" ] || [ -L "${path%/*}" ]; then continue; fi
     [ -d "${path%/*}" ] || mkdir -p -- "${path%/*}"
     case $kind in
-      file) printf '[Timer]\nOnCalendar=%%n %%N %%p %%i %%j %%I %%P 0%%%%\n' >"$path" ;;
+      file) printf '[Timer]\nOnCalendar=%%n %%N %%p %%i %%j %%I %%P 0%%%%\nUnit=x.target\n' >"$path" ;;
       text) printf '%b' "$text" >"$path" ;;
       target) printf '[Unit]\nDescription=wishes\n' >"$path" ;;
+      boot) printf '[Unit]\nWants=x.target y.target z.target\n' >"$path" ;;
       empty) : >"$path" ;;
       folder) mkdir -p -- "$path" ;;
       link) ln -s -- "$text" "$path" ;;
@@ -54,31 +55,28 @@ ask_systemd_of() {
     awk '$2 ~ /^(masked|masked-runtime|bad)$/ { print $1 }' >"$1.masked"
 }
 
-# Lists what agenda-machine finds below the root $1, in the same form as ask_systemd_of. What it skips is in $1.left.
+# Lists what agenda finds below the root $1, in the same form as ask_systemd_of. What it skips is in $1.left. In $1.texts
+# are the events without unexpanded specifiers, which check quotes.
 ask_machine_of() {
-  "$work/roots.bin/agenda-machine" --root "$1" sources 2>"$1.left" </dev/null | awk -F '\t' -v root="$1/" '
-    { path = substr($3, length(root) + 1) }
+  "$program" machine sources --root "$1" 2>"$1.left" </dev/null | awk -F '\t' -v root="$1/" '
+    { path = substr($3, length(root) + 1); gsub(/\\\\/, "\\", path) }
     $1 == "timer" { if (line != "") print line; line = $2 " " path }
     $1 == "drop-in" { line = line " " path }
     END { if (line != "") print line }' | sort >"$1.found"
-  # the program next to the script prints the texts without unexpanded specifiers
-  "$work/roots.bin/agenda-machine" --root "$1" check 2>/dev/null </dev/null | sort >"$1.texts"
+  "$program" machine check --root "$1" 2>/dev/null </dev/null |
+    sed -nE "/%%/d; s/^[^']*: error: [^']*'(.*)'[^']*$/\1/p" | sort >"$1.texts"
 }
 
-# Removes from what systemd loads below the root $1 what agenda-machine skips and reports by its own rules:
-# templates, of which systemd makes an instance with the target's name; escapes; and names that are already
-# used.
+# Removes from what systemd loads below the root $1 what agenda skips and reports by its own rules: escapes, and names that
+# are already used.
 drop_known() {
   awk -v left="$1.left" '
     BEGIN {
       while ((getline line <left) > 0) {
-        if (!match(line, /: (escape|template|name taken)$/)) continue
-        path = substr(line, 1, RSTART - 1)
-        name = folder = path
+        if (!match(line, /: (escape|name taken)$/)) continue
+        name = substr(line, 1, RSTART - 1)
         sub(/.*[/]/, "", name)
-        sub(/[.]target[.](wants|requires)[/][^/]*$/, "", folder)
-        sub(/.*[/]/, "", folder)
-        if (line ~ /: template$/) sub(/@/, "@" folder, name)
+        gsub(/\\\\/, "\\", name)
         known[name] = 1
       }
     }
@@ -92,10 +90,11 @@ drop_known() {
 compare_root() {
   local path
   [ ! -L "$1/lib" ] || sed -i 's, lib/, usr/lib/,g' "$1.loaded" "$1.found"
-  drop_known "$1" | diff --label systemd --label agenda-machine - "$1.found"
+  drop_known "$1" | diff --label systemd --label agenda - "$1.found"
   while IFS= read -r path; do
     grep -qxF -e "${path##*/}" "$1.masked" || echo "not masked: $path"
-  done < <(sed -nE '/[.]target[.](wants|requires)[/]/d; s/^agenda-machine: left out (.*[.]timer): masked$/\1/p' "$1.left")
+  done < <(sed -nE '/[.]target[.](wants|requires)[/]/d; s/^agenda: skipped (.*[.]timer): masked$/\1/p' "$1.left" |
+    sed 's/\\\\/\\/g')
   [ -f "$1.written" ] || : >"$1.written"
   sort -u "$1.texts" | comm -13 <(sort -u "$1.written") - | sed 's/^/other text: /'
 }
@@ -113,24 +112,10 @@ compare_share() {
   done
 }
 
-# Copies agenda-machine, next to a program that prints the events of its timers that have no unexpanded specifiers.
-make_machine() {
-  mkdir -p "$work/roots.bin/lib" || return
-  cp -R -- "$top/bin/lib/machine" "$work/roots.bin/lib/" && cp -- "$top/bin/agenda-machine" "$work/roots.bin/" || return
-  cat >"$work/roots.bin/agenda" <<'PROGRAM'
-#!/usr/bin/env bash
-for word in "$@"; do
-  [ ! -f "$word" ] || sed -n '/%%/d; s/^OnCalendar=//p' "$word"
-done
-PROGRAM
-  chmod 755 "$work/roots.bin/agenda"
-}
-
-# Compares agenda-machine with systemd below the made roots.
+# Compares agenda with systemd below the made roots.
 compare_roots() {
   local shares share number
   local -a children=()
-  make_machine || stop "agenda-machine can't be copied"
   awk -f "$parts/roots.awk" -v seed="$seed" -v count="$roots" >"$work/roots.list" </dev/null
   shares=$(nproc)
   for ((share = 0; share < shares; share++)); do
@@ -142,6 +127,6 @@ compare_roots() {
     cp "$work/roots/$number.told" "$work/told"
     count "root $number of seed $seed"
   done
-  echo "roots: $roots, agenda-machine beside systemd: $(cat "$work"/roots/*.found | wc -l) timers with $(cat "$work"/roots/*.found |
+  echo "roots: $roots, agenda beside systemd: $(cat "$work"/roots/*.found | wc -l) timers with $(cat "$work"/roots/*.found |
     awk '{ count += NF - 2 } END { print count + 0 }') drop-ins are the same; $(cat "$work"/roots/*.left | wc -l) lines say what is left out"
 }
