@@ -174,6 +174,20 @@ Usage: agenda machine check [OPTIONS]
 
 For more information, try '--help'.
 END
+  machine_words_tell_usage 'plan|tomorrow' <<'END'
+error: unexpected argument 'tomorrow' (for a time, use --since or --until)
+
+Usage: agenda machine plan [OPTIONS]
+
+For more information, try '--help'.
+END
+  machine_words_tell_usage 'next|daily|tomorrow' <<'END'
+error: unexpected argument 'tomorrow' (for a time, use --after)
+
+Usage: agenda machine next [OPTIONS] <RULE>
+
+For more information, try '--help'.
+END
   for words in 'check|--zone|Europe/Berlin|--utc' 'check|--utc|--root=none|--zone=UTC' 'check|--utc|--zone=' '--utc|--zone=UTC' \
     'upcoming|--utc|--zone=UTC' 'plan|--utc|--zone=UTC' 'quiet|--utc|--zone=UTC' 'next|daily|--utc|--zone=UTC'; do
     machine_words_tell_usage "$words" <<'END'
@@ -216,12 +230,14 @@ machine => error: unrecognized subcommand 'machine'
 help => error: unrecognized subcommand 'help'
 Check => error: unrecognized subcommand 'Check'
 --version => error: unexpected argument '--version' found
---all|sources => error: unexpected argument 'sources' found
---root|.|sources => error: unexpected argument 'sources' found
+--all|sources => error: unexpected argument 'sources' (for a time, use --after)
+--root|.|sources => error: unexpected argument 'sources' (for a time, use --after)
 --since=x => error: unexpected argument '--since' found
---|sources => error: unexpected argument 'sources' found
+--|sources => error: unexpected argument 'sources' (for a time, use --after)
+--utc|22:00 => error: unexpected argument '22:00' (for a time, use --after)
 sources|check => error: unexpected argument 'check' found
 sources|a.timer => error: unexpected argument 'a.timer' found
+sources|tomorrow => error: unexpected argument 'tomorrow' found
 sources|--root => error: a value is required for '--root <DIR>' but none was supplied
 sources|--root=a|--root=a => error: the argument '--root <DIR>' cannot be used multiple times
 sources|--all|--all => error: the argument '--all' cannot be used multiple times
@@ -234,6 +250,7 @@ sources|--keep-going => error: unexpected argument '--keep-going' found
 sources|--version => error: unexpected argument '--version' found
 sources|-x => error: unexpected argument '-x' found
 check|a.timer => error: unexpected argument 'a.timer' found
+check|tomorrow => error: unexpected argument 'tomorrow' found
 check|--root => error: a value is required for '--root <DIR>' but none was supplied
 check|--root=a|--root=b => error: the argument '--root <DIR>' cannot be used multiple times
 check|--all|--all => error: the argument '--all' cannot be used multiple times
@@ -247,11 +264,22 @@ check|--event-zones => error: unexpected argument '--event-zones' found
 check|--keep-going => error: unexpected argument '--keep-going' found
 check|--since=x => error: unexpected argument '--since' found
 check|--version => error: unexpected argument '--version' found
-upcoming|tomorrow => error: unexpected argument 'tomorrow' found
+upcoming|tomorrow => error: unexpected argument 'tomorrow' (for a time, use --after)
+upcoming|--after|now|tomorrow|02:00 => error: unexpected argument 'tomorrow' (for a time, use --after)
+upcoming|22:00|--all => error: unexpected argument '22:00' (for a time, use --after)
 upcoming|--since=x => error: unexpected argument '--since' found
 upcoming|--after=x|--after=x => error: the argument '--after <TIME>' cannot be used multiple times
 upcoming|--nominal => error: unexpected argument '--nominal' found
 upcoming|--limit=1 => error: unexpected argument '--limit' found
+plan|tomorrow 02:00 => error: unexpected argument 'tomorrow 02:00' (for a time, use --since or --until)
+plan|--since|now|tomorrow => error: unexpected argument 'tomorrow' (for a time, use --since or --until)
+plan|--|+8h => error: unexpected argument '+8h' (for a time, use --since or --until)
+plan|don't => error: unexpected argument 'don't' (for a time, use --since or --until)
+plan|' found => error: unexpected argument '' found' (for a time, use --since or --until)
+plan|-8h => error: unexpected argument '-8' found
+plan|--tomorrow => error: unexpected argument '--tomorrow' found
+quiet|sat => error: unexpected argument 'sat' (for a time, use --since or --until)
+quiet|--least|2h|sun|04:00 => error: unexpected argument 'sun' (for a time, use --since or --until)
 plan|--after=x => error: unexpected argument '--after' found
 plan|--since => error: a value is required for '--since <TIME>' but none was supplied
 plan|--until=x|--upto=x => error: the argument '--until <TIME>' cannot be used multiple times
@@ -268,7 +296,8 @@ sources|--text => error: unexpected argument '--text' found
 plan|--table|--table => error: the argument '--table' cannot be used multiple times
 quiet|--text=yes => error: unexpected value 'yes' for '--text' found; no more were expected
 next => error: the following required arguments were not provided:
-next|daily|weekly => error: unexpected argument 'weekly' found
+next|daily|weekly => error: unexpected argument 'weekly' (for a time, use --after)
+next|daily|--count|2|tomorrow => error: unexpected argument 'tomorrow' (for a time, use --after)
 next|daily|--root=. => error: unexpected argument '--root' found
 next|daily|--all => error: unexpected argument '--all' found
 next|daily|--strict => error: unexpected argument '--strict' found

@@ -27,7 +27,7 @@ use Rattle.agenda_arguments.specs.declared.ask.Ask.{Ask}
 use Rattle.agenda_arguments.specs.declared.ask.UsageFault.{UsageFault}
 use Rattle.agenda_arguments.specs.declared.ask.UsageFault.TheVariants.{NoMemory}
 use Rattle.agenda_arguments.specs.Command.{agenda, machine}
-use Rattle.agenda_arguments.specs.Arguments.{Gives, IsAnswerTo, ArgumentsFault, asked_unless, is_usage, fault_of_kind}
+use Rattle.agenda_arguments.specs.Arguments.{Follows, IsAnswerTo, ArgumentsFault, asked_unless, is_usage, fault_of_kind}
 use Rattle.agenda_arguments.proofs.OnLiterals.{agenda_on_literals}
 
 -- all of these kinds are answered by the same fault
@@ -285,19 +285,19 @@ listed [] alike k among read = absurd among
 listed (first ∷ rest) alike k among read = ap Err (alike.same first k (inl refl) among)
 
 answered : (k : ErrorKind) (fault : UsageFault) (read : Result Ask ArgumentsFault) → IsAnswerTo k fault
-    → (k ≡ kind.OutOfMemory) ⊎ (read ≡ Err (fault_of_kind k)) → Gives (Err fault) read
+    → (k ≡ kind.OutOfMemory) ⊎ (read ≡ Err (fault_of_kind k)) → Follows (Err fault) read
 answered k fault read answer (inl memory) = no_memory fault (subst (λ x. IsAnswerTo x fault) memory answer)
   where
-    no_memory : (f : UsageFault) → f ≡ NoMemory → Gives {X = Ask} (Err f) read
-    no_memory f is = subst (λ (x : UsageFault). Gives {X = Ask} (Err x) read) (sym is) tt
-answered kind.OutOfMemory fault read answer (inr is) = subst (λ (x : UsageFault). Gives {X = Ask} (Err x) read) (sym answer) tt
-answered kind.DisplayHelp fault read answer (inr is) = subst (λ (x : UsageFault). Gives {X = Ask} (Err x) read) (sym answer.1) is
-answered kind.DisplayVersion fault read answer (inr is) = subst (λ (x : UsageFault). Gives {X = Ask} (Err x) read) (sym answer.1) is
-answered k fault read answer (inr is) = subst (λ (x : UsageFault). Gives {X = Ask} (Err x) read) (sym answer.1) is
+    no_memory : (f : UsageFault) → f ≡ NoMemory → Follows {X = Ask} (Err f) read
+    no_memory f is = subst (λ (x : UsageFault). Follows {X = Ask} (Err x) read) (sym is) tt
+answered kind.OutOfMemory fault read answer (inr is) = subst (λ (x : UsageFault). Follows {X = Ask} (Err x) read) (sym answer) tt
+answered kind.DisplayHelp fault read answer (inr is) = subst (λ (x : UsageFault). Follows {X = Ask} (Err x) read) (sym answer.1) is
+answered kind.DisplayVersion fault read answer (inr is) = subst (λ (x : UsageFault). Follows {X = Ask} (Err x) read) (sym answer.1) is
+answered k fault read answer (inr is) = subst (λ (x : UsageFault). Follows {X = Ask} (Err x) read) (sym answer.1) is
 
 -- the answer to an error from clap, which is out of memory or one of the kinds that are listed
 pub rejected : (kinds : Kinds) → Alike kinds → (k : ErrorKind) (fault : UsageFault) (read : Result Ask ArgumentsFault) → IsAnswerTo k fault
-    → (k ≡ kind.OutOfMemory) ⊎ IsAmong k kinds → Gives (Err fault) (asked_unless kinds read)
+    → (k ≡ kind.OutOfMemory) ⊎ IsAmong k kinds → Follows (Err fault) (asked_unless kinds read)
 rejected kinds alike k fault read answer is = answered k fault (asked_unless kinds read) answer (elim is [
   | inl memory ↦ inl memory
   | inr among ↦ inr (listed kinds alike k among read)

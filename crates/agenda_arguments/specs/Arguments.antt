@@ -1,6 +1,6 @@
 -- What the arguments of the command line request.
 use Rattle.std.specs.Prelude.{◌≡◌, ⊤, ℕ, Bool, false, List, [], ◌∷◌, Option, Some, None, Result, Ok, Err}
-use Rattle.std.specs.Prelude.{◌&&◌, ◌||◌, ◌==◌, codes, drop, if◌then◌else◌, map, not, option_and_then, slice_get, true, unwrap_or}
+use Rattle.std.specs.Prelude.{◌&&◌, ◌||◌, ◌==◌, codes, drop, if◌then◌else◌, map, not, option_and_then, slice_get, true, unwrap_or, IfErr}
 use Rattle.std.specs.List.{flat_map}
 use Rattle.std.specs.Option.{option_map_or}
 use Rattle.std.specs.Str.{bytes_eq}
@@ -36,6 +36,7 @@ use Rattle.plan_rules.specs.declared.SourceKind.{SourceKind}
 use Rattle.agenda_sources.specs.declared.SourcePath.{SourcePath}
 use Rattle.plan_rules.specs.SourceKind.{is_many, kinds, option_of}
 use Rattle.agenda_arguments.specs.Command.{agenda, machine}
+use Rattle.agenda_arguments.specs.Hint.{hinted, time_options}
 
 -- why arguments request no command: they request help or the version, or they are invalid (agenda)
 pub data ArgumentsFault : Type 0 where
@@ -324,16 +325,32 @@ with_question words = if lacks_question words then codes "machine" ∷ codes "up
 abbrev pub are_of_machine : List (List ℕ) → Bool
 are_of_machine words = option_map_or (λ word. bytes_eq word (codes "machine")) (slice_get words 1) false
 
--- what the arguments request; those of `agenda machine`, from `machine` on, are a command line of their own (agenda)
-unfoldable pub asked_by : List (List ℕ) → Result Ask ArgumentsFault
-asked_by words = if are_of_machine words then asked_by_machine (with_question (drop 1 words)) else asked_by_agenda words
+-- what the arguments of `agenda machine` request, and the options that the hint of their usage errors names (agenda)
+abbrev pub asked_about_machine : List (List ℕ) → Result Ask ArgumentsFault × Option (List ℕ)
+asked_about_machine words = (asked_by_machine words, time_options words)
+
+-- what the arguments request, and the options that the hint of a usage error names, if it has one; the arguments of
+-- `agenda machine`, from `machine` on, are a command line of their own (agenda)
+unfoldable pub asked_by : List (List ℕ) → Result Ask ArgumentsFault × Option (List ℕ)
+asked_by words =
+    if are_of_machine words then asked_about_machine (with_question (drop 1 words)) else (asked_by_agenda words, None)
 
 -- the result is what the definition says, or an allocation failed (agenda)
-abbrev pub Gives : {X : Type 0} → Result X UsageFault → Result X ArgumentsFault → Type 0
-Gives (Ok x) read = read ≡ Ok x
-Gives (Err NoMemory) read = ⊤
-Gives (Err (Usage text)) read = read ≡ Err is_usage
-Gives (Err (Help text)) read = read ≡ Err wants_help
+abbrev pub Follows : {X : Type 0} → Result X UsageFault → Result X ArgumentsFault → Type 0
+Follows (Ok x) read = read ≡ Ok x
+Follows (Err NoMemory) read = ⊤
+Follows (Err (Usage text)) read = read ≡ Err is_usage
+Follows (Err (Help text)) read = read ≡ Err wants_help
+
+-- the text of a usage error has the hint that names these options (agenda)
+abbrev pub HasHint : Option (List ℕ) → UsageFault → Type 0
+HasHint options (Usage text) = (said : List ℕ) × (text ≡ hinted options said)
+HasHint options NoMemory = ⊤
+HasHint options (Help text) = ⊤
+
+-- the result is what the arguments request, and a usage error has its hint (agenda)
+abbrev pub Gives : Result Ask UsageFault → Result Ask ArgumentsFault × Option (List ℕ) → Type 0
+Gives result asked = Follows result asked.0 × IfErr result (HasHint asked.1)
 
 -- the error that is returned for a kind of clap's errors (agenda)
 abbrev pub IsAnswerTo : ErrorKind → UsageFault → Type 0

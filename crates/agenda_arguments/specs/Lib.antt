@@ -2,3 +2,4 @@ pub mod Command
 pub mod Arguments
 pub mod Codes
 pub mod Tables
+pub mod Hint

@@ -2,7 +2,7 @@
 ghost use Rattle.std.specs.Prelude.{◌≡◌, Err, IfOk, Some, codes, map, string_bytes};
 ghost use Rattle.clap.specs.Words.{first_of, found_of, kind_of, rows_of, subcommand_rows_of};
 ghost use Rattle.agenda_arguments.specs.Arguments.ArgumentsFault.{is_usage};
-ghost use Rattle.agenda_arguments.specs.Arguments.{Gives, IsAnswerTo, are_of_machine, asked_by, asked_by_agenda, asked_by_check};
+ghost use Rattle.agenda_arguments.specs.Arguments.{Follows, Gives, IsAnswerTo, are_of_machine, asked_by, asked_by_agenda, asked_by_check};
 ghost use Rattle.agenda_arguments.specs.Arguments.{asked_by_explain, asked_by_next, asked_by_plan, asked_by_quiet, asked_by_steps};
 ghost use Rattle.agenda_arguments.specs.Arguments.{asked_by_subcommand, asked_by_upcoming, format_in, jobs_in, one_rule, plan_in};
 ghost use Rattle.agenda_arguments.specs.Arguments.{sizes_in, zones_in};
@@ -55,7 +55,7 @@ fn are_of_machine(words: &[String]) -> bool
 
 // Returns what the arguments of `agenda` request, if they aren't those of `agenda machine`.
 fn asked_by_agenda(alloc: Global, words: &[String]) -> Result<Ask, UsageFault>
-    ensures { Gives result (asked_by_agenda (map string_bytes words.now)) }
+    ensures { Follows result (asked_by_agenda (map string_bytes words.now)) }
 {
     let command = agenda_command(alloc)?;
     match command.try_get_matches_from(words) {
@@ -66,7 +66,7 @@ fn asked_by_agenda(alloc: Global, words: &[String]) -> Result<Ask, UsageFault>
 
 // Returns what the given subcommand requests.
 fn asked_by_subcommand(alloc: Global, matches: &ArgMatches<'_>) -> Result<Ask, UsageFault>
-    ensures { Gives result (asked_by_subcommand (subcommand_rows_of matches.now)) }
+    ensures { Follows result (asked_by_subcommand (subcommand_rows_of matches.now)) }
 {
     match matches.subcommand() {
         Some((name, given)) => asked_by_name(alloc, name, given),
@@ -76,7 +76,7 @@ fn asked_by_subcommand(alloc: Global, matches: &ArgMatches<'_>) -> Result<Ask, U
 
 // Returns what the subcommand with this name requests.
 fn asked_by_name(alloc: Global, name: &str, given: &ArgMatches<'_>) -> Result<Ask, UsageFault>
-    ensures { Gives result (asked_by_subcommand (Some (name.now, rows_of (found_of given.now)))) }
+    ensures { Follows result (asked_by_subcommand (Some (name.now, rows_of (found_of given.now)))) }
 {
     match name {
         "next" => asked_by_next(alloc, given),
@@ -96,13 +96,13 @@ fn asked_by_name(alloc: Global, name: &str, given: &ArgMatches<'_>) -> Result<As
 ///
 /// `Usage`, always; or `NoMemory` if an allocation failed.
 pub(crate) fn no_subcommand(alloc: Global) -> Result<Ask, UsageFault>
-    ensures { Gives result (Err is_usage) }
+    ensures { Follows result (Err is_usage) }
 {
     Err(UsageFault::Usage(text(alloc, NO_SUBCOMMAND)?))
 }
 
 fn asked_by_next(alloc: Global, given: &ArgMatches<'_>) -> Result<Ask, UsageFault>
-    ensures { Gives result (asked_by_next (rows_of (found_of given.now))) }
+    ensures { Follows result (asked_by_next (rows_of (found_of given.now))) }
 {
     let after = text_of(alloc, given, "after")?;
     let count = number_argument(alloc, given, "count")?;
@@ -120,7 +120,7 @@ fn asked_by_next(alloc: Global, given: &ArgMatches<'_>) -> Result<Ask, UsageFaul
 
 // Returns the rule of `next`.
 fn rule_of(alloc: Global, given: &ArgMatches<'_>) -> Result<Asked, UsageFault>
-    ensures { Gives result (one_rule (first_of (codes "cron") (rows_of (found_of given.now)))
+    ensures { Follows result (one_rule (first_of (codes "cron") (rows_of (found_of given.now)))
         (first_of (codes "calendar") (rows_of (found_of given.now)))) }
 {
     match (value_of(given, "cron"), value_of(given, "calendar")) {
@@ -131,13 +131,13 @@ fn rule_of(alloc: Global, given: &ArgMatches<'_>) -> Result<Asked, UsageFault>
 }
 
 fn asked_by_plan(alloc: Global, given: &ArgMatches<'_>) -> Result<Ask, UsageFault>
-    ensures { Gives result (asked_by_plan (rows_of (found_of given.now))) }
+    ensures { Follows result (asked_by_plan (rows_of (found_of given.now))) }
 {
     Ok(Ask::Plan(plan_of(alloc, given)?))
 }
 
 fn asked_by_upcoming(alloc: Global, given: &ArgMatches<'_>) -> Result<Ask, UsageFault>
-    ensures { Gives result (asked_by_upcoming (rows_of (found_of given.now))) }
+    ensures { Follows result (asked_by_upcoming (rows_of (found_of given.now))) }
 {
     let after = text_of(alloc, given, "after")?;
     let jobs = jobs_of(alloc, given)?;
@@ -145,7 +145,7 @@ fn asked_by_upcoming(alloc: Global, given: &ArgMatches<'_>) -> Result<Ask, Usage
 }
 
 fn asked_by_quiet(alloc: Global, given: &ArgMatches<'_>) -> Result<Ask, UsageFault>
-    ensures { Gives result (asked_by_quiet (rows_of (found_of given.now))) }
+    ensures { Follows result (asked_by_quiet (rows_of (found_of given.now))) }
 {
     let plan = plan_of(alloc, given)?;
     let least = number_argument(alloc, given, "least")?;
@@ -155,7 +155,7 @@ fn asked_by_quiet(alloc: Global, given: &ArgMatches<'_>) -> Result<Ask, UsageFau
 // Returns what a plan is made from.
 #[tactic(auto, unfolding(crate::specs::Arguments::plan_in))]
 fn plan_of(alloc: Global, given: &ArgMatches<'_>) -> Result<PlanRequest, UsageFault>
-    ensures { Gives result (plan_in (rows_of (found_of given.now))) }
+    ensures { Follows result (plan_in (rows_of (found_of given.now))) }
 {
     let since = text_of(alloc, given, "since")?;
     let upto = text_of(alloc, given, "upto")?;
@@ -211,7 +211,7 @@ fn format_of(given: &ArgMatches<'_>) -> FormatRequest
 ///
 /// `Usage` if a number is missing; `NoMemory` if an allocation failed.
 pub(crate) fn sizes_of(alloc: Global, given: &ArgMatches<'_>) -> Result<Sizes, UsageFault>
-    ensures { Gives result (sizes_in (rows_of (found_of given.now))) }
+    ensures { Follows result (sizes_in (rows_of (found_of given.now))) }
 {
     let planners = number_argument(alloc, given, "planners")?;
     let room = number_argument(alloc, given, "room")?;
@@ -224,7 +224,7 @@ pub(crate) fn sizes_of(alloc: Global, given: &ArgMatches<'_>) -> Result<Sizes, U
 }
 
 fn asked_by_check(alloc: Global, given: &ArgMatches<'_>) -> Result<Ask, UsageFault>
-    ensures { Gives result (asked_by_check (rows_of (found_of given.now))) }
+    ensures { Follows result (asked_by_check (rows_of (found_of given.now))) }
 {
     let zones = zones_of(alloc, given)?;
     let sources = sources_of(alloc, given)?;
@@ -237,14 +237,14 @@ fn asked_by_check(alloc: Global, given: &ArgMatches<'_>) -> Result<Ask, UsageFau
 }
 
 fn asked_by_steps(alloc: Global, given: &ArgMatches<'_>) -> Result<Ask, UsageFault>
-    ensures { Gives result (asked_by_steps (rows_of (found_of given.now))) }
+    ensures { Follows result (asked_by_steps (rows_of (found_of given.now))) }
 {
     let file = text_of(alloc, given, "file")?;
     Ok(Ask::Steps { file })
 }
 
 fn asked_by_explain(alloc: Global, given: &ArgMatches<'_>) -> Result<Ask, UsageFault>
-    ensures { Gives result (asked_by_explain (rows_of (found_of given.now))) }
+    ensures { Follows result (asked_by_explain (rows_of (found_of given.now))) }
 {
     let name = text_if_given(alloc, given, "code")?;
     let code = code_of(alloc, &name)?;

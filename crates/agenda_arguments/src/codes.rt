@@ -1,6 +1,6 @@
 //! The code that the command line names.
 ghost use Rattle.std.specs.Prelude.{◌≡◌, IfOk};
-ghost use Rattle.agenda_arguments.specs.Arguments.{Gives, code_in};
+ghost use Rattle.agenda_arguments.specs.Arguments.{Follows, code_in};
 ghost use Rattle.agenda_arguments.specs.Codes.{unknown_code};
 
 use crate::ask::UsageFault;
@@ -14,7 +14,7 @@ use std::alloc::{AllocError, Global};
 ///
 /// `Usage` if no code has this name; `NoMemory` if an allocation failed.
 pub(crate) fn code_of(alloc: Global, name: &Option<Text>) -> Result<Option<Code>, UsageFault>
-    ensures { Gives result (code_in name.now) }
+    ensures { Follows result (code_in name.now) }
 {
     let Some(name) = name else {
         return Ok(None);

@@ -10,6 +10,7 @@ mod arguments;
 mod ask;
 mod codes;
 mod command;
+mod hint;
 mod machine;
 mod paths;
 mod values;

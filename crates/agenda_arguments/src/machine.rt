@@ -1,7 +1,7 @@
 //! What the arguments of `agenda machine` request.
 ghost use Rattle.std.specs.Prelude.{◌≡◌, ◌++◌, ◌∷◌, IfOk, OnOk, Some, codes, drop, map, string_bytes};
 ghost use Rattle.clap.specs.Words.{first_of, found_of, rows_of, subcommand_rows_of};
-ghost use Rattle.agenda_arguments.specs.Arguments.{Gives, asked_by_machine, asked_by_machine_check, asked_by_machine_next, asked_by_machine_plan};
+ghost use Rattle.agenda_arguments.specs.Arguments.{Follows, Gives, asked_about_machine, asked_by_machine, asked_by_machine_check, asked_by_machine_next, asked_by_machine_plan};
 ghost use Rattle.agenda_arguments.specs.Arguments.{asked_by_machine_quiet, asked_by_machine_sources, asked_by_machine_upcoming};
 ghost use Rattle.agenda_arguments.specs.Arguments.{asked_by_question, asked_of_jobs, asked_of_machine, is_given, is_option};
 ghost use Rattle.agenda_arguments.specs.Arguments.{lacks_question, machine_format_in, machine_zone, span_in, table_in, with_question, zone_in};
@@ -12,6 +12,7 @@ use crate::ask::{
     SpanRequest, TableRequest, UsageFault,
 };
 use crate::command::machine_command;
+use crate::hint::{time_options, with_hint};
 use crate::values::{is_given, number_argument, text, text_of, value_of};
 use agenda_sources::Asked;
 use clap::ArgMatches;
@@ -41,13 +42,13 @@ const TEXT_AND_JSON: &str =
 /// `Help` with the text of help, if that is requested; `Usage` with the text of usage, if the arguments are
 /// invalid; `NoMemory` if an allocation failed.
 pub(crate) fn asked_about_machine(alloc: Global, words: &[String]) -> Result<Ask, UsageFault>
-    ensures { Gives result (asked_by_machine (with_question (map string_bytes words.now))) }
+    ensures { Gives result (asked_about_machine (with_question (map string_bytes words.now))) }
 {
     if !lacks_question(words) {
-        return asked_by_machine(alloc, words);
+        return asked_with_hint(alloc, words);
     }
     let asked = with_upcoming(alloc, words)?;
-    asked_by_machine(alloc, asked.as_slice())
+    asked_with_hint(alloc, asked.as_slice())
 }
 
 // Returns whether no question follows the first of the words.
@@ -95,9 +96,23 @@ fn push_copies(alloc: Global, words: &[String], copies: &mut Vec<String>) -> Res
     Ok(())
 }
 
-// Returns what the arguments of `agenda machine` request, which have a question.
+// Returns what the arguments of `agenda machine` request, which have a question. If it expects a time, the usage error for a
+// word that isn't an option gets a hint.
+fn asked_with_hint(alloc: Global, words: &[String]) -> Result<Ask, UsageFault>
+    ensures { Gives result (asked_about_machine (map string_bytes words.now)) }
+{
+    match asked_by_machine(alloc, words) {
+        Err(UsageFault::Usage(said)) => {
+            let text = with_hint(alloc, said, time_options(words))?;
+            Err(UsageFault::Usage(text))
+        }
+        asked => asked,
+    }
+}
+
+// Returns what the arguments of `agenda machine` request, which have a question, without the hint.
 fn asked_by_machine(alloc: Global, words: &[String]) -> Result<Ask, UsageFault>
-    ensures { Gives result (asked_by_machine (map string_bytes words.now)) }
+    ensures { Follows result (asked_by_machine (map string_bytes words.now)) }
 {
     let command = machine_command(alloc)?;
     match command.try_get_matches_from(words) {
@@ -108,7 +123,7 @@ fn asked_by_machine(alloc: Global, words: &[String]) -> Result<Ask, UsageFault>
 
 // Returns what the given question requests.
 fn asked_by_question(alloc: Global, matches: &ArgMatches<'_>) -> Result<Ask, UsageFault>
-    ensures { Gives result (asked_by_question (subcommand_rows_of matches.now)) }
+    ensures { Follows result (asked_by_question (subcommand_rows_of matches.now)) }
 {
     match matches.subcommand() {
         Some((name, given)) => asked_by_name(alloc, name, given),
@@ -118,7 +133,7 @@ fn asked_by_question(alloc: Global, matches: &ArgMatches<'_>) -> Result<Ask, Usa
 
 // Returns what the question with this name requests.
 fn asked_by_name(alloc: Global, name: &str, given: &ArgMatches<'_>) -> Result<Ask, UsageFault>
-    ensures { Gives result (asked_by_question (Some (name.now, rows_of (found_of given.now)))) }
+    ensures { Follows result (asked_by_question (Some (name.now, rows_of (found_of given.now)))) }
 {
     match name {
         "upcoming" => asked_by_machine_upcoming(alloc, given),
@@ -132,14 +147,14 @@ fn asked_by_name(alloc: Global, name: &str, given: &ArgMatches<'_>) -> Result<As
 }
 
 fn asked_by_machine_sources(alloc: Global, given: &ArgMatches<'_>) -> Result<Ask, UsageFault>
-    ensures { Gives result (asked_by_machine_sources (rows_of (found_of given.now))) }
+    ensures { Follows result (asked_by_machine_sources (rows_of (found_of given.now))) }
 {
     let json = is_given(given, "json");
     asked_of_machine(alloc, given, MachineQuestion::Sources { json })
 }
 
 fn asked_by_machine_check(alloc: Global, given: &ArgMatches<'_>) -> Result<Ask, UsageFault>
-    ensures { Gives result (asked_by_machine_check (rows_of (found_of given.now))) }
+    ensures { Follows result (asked_by_machine_check (rows_of (found_of given.now))) }
 {
     let zone = machine_zone(alloc, given)?;
     let json = is_given(given, "json");
@@ -147,7 +162,7 @@ fn asked_by_machine_check(alloc: Global, given: &ArgMatches<'_>) -> Result<Ask, 
 }
 
 fn asked_by_machine_upcoming(alloc: Global, given: &ArgMatches<'_>) -> Result<Ask, UsageFault>
-    ensures { Gives result (asked_by_machine_upcoming (rows_of (found_of given.now))) }
+    ensures { Follows result (asked_by_machine_upcoming (rows_of (found_of given.now))) }
 {
     let after = text_of(alloc, given, "after")?;
     let delays = is_given(given, "delays");
@@ -155,7 +170,7 @@ fn asked_by_machine_upcoming(alloc: Global, given: &ArgMatches<'_>) -> Result<As
 }
 
 fn asked_by_machine_plan(alloc: Global, given: &ArgMatches<'_>) -> Result<Ask, UsageFault>
-    ensures { Gives result (asked_by_machine_plan (rows_of (found_of given.now))) }
+    ensures { Follows result (asked_by_machine_plan (rows_of (found_of given.now))) }
 {
     let span = span_of(alloc, given)?;
     let sizes = sizes_of(alloc, given)?;
@@ -164,7 +179,7 @@ fn asked_by_machine_plan(alloc: Global, given: &ArgMatches<'_>) -> Result<Ask, U
 }
 
 fn asked_by_machine_quiet(alloc: Global, given: &ArgMatches<'_>) -> Result<Ask, UsageFault>
-    ensures { Gives result (asked_by_machine_quiet (rows_of (found_of given.now))) }
+    ensures { Follows result (asked_by_machine_quiet (rows_of (found_of given.now))) }
 {
     let span = span_of(alloc, given)?;
     let sizes = sizes_of(alloc, given)?;
@@ -179,7 +194,7 @@ fn asked_by_machine_quiet(alloc: Global, given: &ArgMatches<'_>) -> Result<Ask, 
 }
 
 fn asked_by_machine_next(alloc: Global, given: &ArgMatches<'_>) -> Result<Ask, UsageFault>
-    ensures { Gives result (asked_by_machine_next (rows_of (found_of given.now))) }
+    ensures { Follows result (asked_by_machine_next (rows_of (found_of given.now))) }
 {
     let text = text_of(alloc, given, "rule")?;
     let count = number_argument(alloc, given, "count")?;
@@ -198,7 +213,7 @@ fn asked_by_machine_next(alloc: Global, given: &ArgMatches<'_>) -> Result<Ask, U
 
 // Returns the span of a plan.
 fn span_of(alloc: Global, given: &ArgMatches<'_>) -> Result<SpanRequest, UsageFault>
-    ensures { Gives result (span_in (rows_of (found_of given.now))) }
+    ensures { Follows result (span_in (rows_of (found_of given.now))) }
 {
     let since = text_of(alloc, given, "since")?;
     let until = text_of(alloc, given, "until")?;
@@ -212,7 +227,7 @@ fn asked_of_jobs(
     delays: bool,
     goal: MachineGoal,
 ) -> Result<Ask, UsageFault>
-    ensures { Gives result (asked_of_jobs (rows_of (found_of given.now)) delays goal) }
+    ensures { Follows result (asked_of_jobs (rows_of (found_of given.now)) delays goal) }
 {
     let zone = machine_zone(alloc, given)?;
     let table = table_of(alloc, given)?;
@@ -231,7 +246,7 @@ fn asked_of_jobs(
 
 // Returns whether the answer is a table. At most one of its forms may be given.
 fn table_of(alloc: Global, given: &ArgMatches<'_>) -> Result<TableRequest, UsageFault>
-    ensures { Gives result (table_in (is_given (codes "table") (rows_of (found_of given.now)))
+    ensures { Follows result (table_in (is_given (codes "table") (rows_of (found_of given.now)))
         (is_given (codes "text") (rows_of (found_of given.now))) (is_given (codes "json") (rows_of (found_of given.now)))) }
 {
     let forms = (
@@ -265,7 +280,7 @@ fn asked_of_machine(
     given: &ArgMatches<'_>,
     question: MachineQuestion,
 ) -> Result<Ask, UsageFault>
-    ensures { Gives result (asked_of_machine (rows_of (found_of given.now)) question) }
+    ensures { Follows result (asked_of_machine (rows_of (found_of given.now)) question) }
 {
     let root = text_of(alloc, given, "root")?;
     let all = is_given(given, "all");
@@ -278,7 +293,7 @@ fn asked_of_machine(
 
 // Returns the time zone of the question, if `--zone` or `--utc` is given.
 fn machine_zone(alloc: Global, given: &ArgMatches<'_>) -> Result<Option<Text>, UsageFault>
-    ensures { Gives result (machine_zone (zone_in (rows_of (found_of given.now))) (is_given (codes "utc") (rows_of (found_of given.now)))) }
+    ensures { Follows result (machine_zone (zone_in (rows_of (found_of given.now))) (is_given (codes "utc") (rows_of (found_of given.now)))) }
 {
     match (value_of(given, "zone"), is_given(given, "utc")) {
         (Some(_), true) => Err(UsageFault::Usage(text(alloc, ONE_ZONE)?)),

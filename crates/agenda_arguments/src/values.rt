@@ -1,7 +1,7 @@
 //! The values of a subcommand's options and arguments.
 ghost use Rattle.std.specs.Prelude.{◌≡◌, IfOk, option_map};
 ghost use Rattle.clap.specs.Words.{first_of, found_of, one_of, rows_of};
-ghost use Rattle.agenda_arguments.specs.Arguments.{Gives, is_given, number_in, wanted};
+ghost use Rattle.agenda_arguments.specs.Arguments.{Follows, is_given, number_in, wanted};
 
 use crate::ask::UsageFault;
 use clap::ArgMatches;
@@ -43,7 +43,7 @@ pub(crate) fn text_of(
     given: &ArgMatches<'_>,
     option: &str,
 ) -> Result<Text, UsageFault>
-    ensures { Gives result (wanted (first_of option.now (rows_of (found_of given.now)))) }
+    ensures { Follows result (wanted (first_of option.now (rows_of (found_of given.now)))) }
 {
     match value_of(given, option) {
         Some(value) => Ok(text(alloc, value)?),
@@ -61,7 +61,7 @@ pub(crate) fn number_argument(
     given: &ArgMatches<'_>,
     option: &str,
 ) -> Result<u32, UsageFault>
-    ensures { Gives result (wanted (number_in (one_of option.now (rows_of (found_of given.now))))) }
+    ensures { Follows result (wanted (number_in (one_of option.now (rows_of (found_of given.now))))) }
 {
     match given.get_one::<u32>(option) {
         Some(number) => Ok(number),

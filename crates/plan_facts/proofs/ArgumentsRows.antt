@@ -6,7 +6,7 @@ use Rattle.std.specs.List.{list_all}
 use Rattle.std.specs.Str.{bytes_eq}
 use Rattle.clap.specs.Lexer.{long_of, short_of}
 use Rattle.clap.proofs.OnLiterals.{clap_on_literals}
-use Rattle.plan_texts.specs.Text.{words}
+use Rattle.plan_texts.specs.Text.{cut_at, words}
 use Rattle.plan_collect.specs.declared.Sizes.{Sizes}
 use Rattle.agenda_arguments.specs.declared.ask.Ask.{Ask}
 use Rattle.agenda_arguments.specs.declared.ask.Ask.TheVariants.{Next, Plan, Upcoming, Quiet, Check, Steps, Machine, MachineNext}
@@ -26,12 +26,13 @@ use Rattle.agenda_sources.specs.declared.Asked.TheVariants.{Cron, Event}
 use Rattle.plan_rules.specs.declared.SourceKind.TheVariants.{Crontab, System, CronD, Spool, Timer}
 use Rattle.agenda_sources.specs.declared.SourcePath.{SourcePath}
 use Rattle.agenda_arguments.specs.Arguments.{ArgumentsFault, asked_by, is_usage, path_of, wants_help}
+use Rattle.agenda_arguments.specs.Hint.{hinted}
 use Rattle.agenda_arguments.proofs.OnLiterals.{agenda_on_literals}
 use Rattle.plan_facts.specs.Rows.{RowsHold}
 
 -- what a command line requests, of which no argument has a blank
 abbrev asked_in : List ℕ → Result Ask ArgumentsFault
-asked_in line = asked_by (words line)
+asked_in line = (asked_by (words line)).0
 
 abbrev zones_from : Option (List ℕ) → (event_zones : Bool) → ZonesRequest
 zones_from zone event_zones = record { zone = zone; event_zones = event_zones }
@@ -63,7 +64,7 @@ record IsPlainWord (word : List ℕ) : Type 0 where
 -- any two plain words are accepted
 any_moment_and_rule : (name after cron : List ℕ) → IsPlainWord after → IsPlainWord cron
     → asked_by (name ∷ codes "next" ∷ codes "--after" ∷ after ∷ codes "--cron" ∷ cron ∷ [])
-    ≡ Ok (asks_next after in_utc 1 (Cron cron) as_text)
+    ≡ (Ok (asks_next after in_utc 1 (Cron cron) as_text), None)
 unfolding asked_by clap_on_literals agenda_on_literals
 any_moment_and_rule name after cron a c =
     rw (a.trailing, a.long, a.short, c.trailing, c.long, c.short) (refl {a = Ok (asks_next after in_utc 1 (Cron cron) as_text)})
@@ -306,6 +307,35 @@ unfolding words asked_by clap_on_literals agenda_on_literals
 machine_next_rows = refl
 
 -- ---- usage errors
+
+-- the options that the hint of a usage error names
+abbrev hint_in : List ℕ → Option (List ℕ)
+hint_in line = (asked_by (words line)).1
+
+hint_options : RowsHold hint_in
+    ((codes "agenda machine plan tomorrow", Some (codes "--since or --until"))
+    ∷ (codes "agenda machine quiet --least 2h tomorrow", Some (codes "--since or --until"))
+    ∷ (codes "agenda machine upcoming tomorrow", Some (codes "--after"))
+    ∷ (codes "agenda machine --all tomorrow", Some (codes "--after"))
+    ∷ (codes "agenda machine next daily weekly", Some (codes "--after"))
+    ∷ (codes "agenda machine check tomorrow", None)
+    ∷ (codes "agenda machine sources tomorrow", None)
+    ∷ (codes "agenda plan tomorrow", None)
+    ∷ [])
+unfolding words asked_by
+hint_options = refl
+
+-- the hint is in place of ` found` after a word, and not after an option
+hints : RowsHold (hinted (Some (codes "--after")))
+    ((
+      codes "error: unexpected argument 'a' found\n\nUsage: agenda\n",
+      codes "error: unexpected argument 'a' (for a time, use --after)\n\nUsage: agenda\n",
+    )
+    ∷ (codes "error: unexpected argument '-a' found\n", codes "error: unexpected argument '-a' found\n")
+    ∷ (codes "error: unrecognized subcommand 'a'\n", codes "error: unrecognized subcommand 'a'\n")
+    ∷ [])
+unfolding cut_at
+hints = refl
 
 abbrev is_usage_error : Result Ask ArgumentsFault → Bool
 is_usage_error (Err is_usage) = true

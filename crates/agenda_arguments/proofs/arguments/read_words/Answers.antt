@@ -2,6 +2,7 @@
 use Rattle.std.proofs.Common.{◌≡◌, ◌-◌, ◌∙◌, arith, drop, length, length-drop, map, string_bytes, sym, take, take_all, true}
 use Rattle.std.proofs.lemmas.List.{drop-map}
 use Rattle.agenda_arguments.specs.Arguments.{are_of_machine, asked_by}
+use Rattle.agenda_arguments.proofs.HintLemmas.{no_hint}
 use Rattle.agenda_arguments.proofs.arguments.read_words.Goals as goal
 
 pub returns-then-are_of_machine : goal.returns-then-are_of_machine
@@ -15,4 +16,5 @@ returns-then-are_of_machine c =
 
 pub returns-else-are_of_machine : goal.returns-else-are_of_machine
 unfolding asked_by
-returns-else-are_of_machine c = rw (← c.are_of_machine.ensures, c.if-are_of_machine.false) c.asked_by_agenda.ensures
+returns-else-are_of_machine c =
+    rw (← c.are_of_machine.ensures, c.if-are_of_machine.false) (c.asked_by_agenda.ensures, no_hint c.asked_by_agenda.result)
