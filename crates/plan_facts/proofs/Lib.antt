@@ -6,4 +6,5 @@ mod EventRows
 mod CrontabRows
 mod TimerRows
 mod ZoneRows
+mod TimeRows
 mod ArgumentsRows
