@@ -1,6 +1,6 @@
 -- Which code the line of each error ends with. There is a lemma for each kind of line, by the cases of its error.
 -- A line is put together from the front, and its end is a name and a newline: a text before that changes nothing (`longer`).
-use Rattle.std.proofs.Common.{◌∙◌, ℕ, List, ◌++◌, ap, refl, sym, append_assoc, codes, true, false}
+use Rattle.std.proofs.Common.{◌∙◌, ℕ, List, ◌++◌, Option, None, Some, ap, refl, sym, append_assoc, codes, true, false}
 use Rattle.std.specs.Prelude.{decimal}
 use Rattle.plan_sets.specs.Causes.{moment_cause}
 use Rattle.plan_sets.specs.declared.MomentFault.{MomentFault}
@@ -37,7 +37,7 @@ use Rattle.agenda_faults.specs.declared.faults.RunFault.{RunFault}
 use Rattle.agenda_faults.specs.declared.faults.RunFault.TheVariants as run
 use Rattle.agenda_faults.specs.declared.faults.Failure.{Failure}
 use Rattle.agenda_faults.specs.declared.faults.Failure.TheVariants as failure
-use Rattle.agenda_faults.specs.MachineLines.{machine_line, memory_line, named_zone_line, option_name, time_line}
+use Rattle.agenda_faults.specs.MachineLines.{machine_line, memory_line, named_zone_line, no_zone_line, option_name, time_line}
 use Rattle.agenda_faults.specs.declared.machine_faults.MachineFault.{MachineFault}
 use Rattle.agenda_faults.specs.declared.machine_faults.MachineFault.TheVariants as machine
 use Rattle.agenda_faults.specs.declared.machine_faults.TimeOption.{TimeOption}
@@ -208,15 +208,21 @@ ends_time option time.OutOfYears text =
     longer (codes "agenda: ") _ (longer (option_name option) _ (longer (codes ": before 1970 or after 2999: '") _ (longer text _
     (in_words (codes "' ") code.OutOfYears))))
 
-ends_named_zone : (text : List ℕ) (fault : ZoneFault) → EndsWithCode (named_zone_line text fault)
-ends_named_zone text zone.NoMemory = memory
-ends_named_zone text zone.BadZoneName =
-    longer (codes "agenda: zone '") _ (longer text _ (in_words (codes "': not the name of a zone ") code.BadZoneName))
-ends_named_zone text zone.NoSuchZone =
+ends_no_zone : (text : List ℕ) (like : Option (List ℕ)) → EndsWithCode (no_zone_line text like)
+ends_no_zone text None =
     longer (codes "agenda: zone '") _ (longer text _ (in_words (codes "': no such zone ") code.NoSuchZone))
-ends_named_zone text zone.TooLarge =
+ends_no_zone text (Some name) =
+    longer (codes "agenda: zone '") _ (longer text _ (longer (codes "': no such zone; did you mean ") _ (longer name _
+    (in_words (codes "? ") code.NoSuchZone))))
+
+ends_named_zone : (text : List ℕ) (fault : ZoneFault) (like : Option (List ℕ)) → EndsWithCode (named_zone_line text fault like)
+ends_named_zone text zone.NoMemory like = memory
+ends_named_zone text zone.BadZoneName like =
+    longer (codes "agenda: zone '") _ (longer text _ (in_words (codes "': not the name of a zone ") code.BadZoneName))
+ends_named_zone text zone.NoSuchZone like = ends_no_zone text like
+ends_named_zone text zone.TooLarge like =
     longer (codes "agenda: zone '") _ (longer text _ (in_words (codes "': larger than 1048576 bytes ") code.TooLarge))
-ends_named_zone text zone.BadZone =
+ends_named_zone text zone.BadZone like =
     longer (codes "agenda: zone '") _ (longer text _ (in_words (codes "': not a TZif file ") code.BadZone))
 
 ends_machine : (fault : MachineFault) → EndsWithCode (machine_line fault)
@@ -225,7 +231,7 @@ ends_machine (machine.Length text) =
     longer (codes "agenda: --least: not a length: '") _ (longer text _ (in_words (codes "' (such as '90min' or '2h') ") code.BadLength))
 ends_machine (machine.Backwards since) =
     longer (codes "agenda: --until is before --since (") _ (longer since _ (in_words (codes ") ") code.Backwards))
-ends_machine (machine.Zone text fault) = ends_named_zone text fault
+ends_machine (machine.Zone text fault like) = ends_named_zone text fault like
 ends_machine machine.Clock = in_words (codes "agenda: the system clock is after 2999: set it ") code.OutOfYears
 
 pub ends_failure : (sources : List SourcePath) (fault : Failure) → HasLine fault → EndsWithCode (fault_text sources fault)

@@ -94,7 +94,7 @@ zone_status other = rejected_status
 
 -- the status for a question about a machine that can't be answered (agenda)
 abbrev pub machine_status : MachineFault → ℕ
-machine_status (machine.Zone text fault) = zone_status fault
+machine_status (machine.Zone text fault like) = zone_status fault
 machine_status other = rejected_status
 
 -- the status for a command that was not done (agenda)

@@ -1,5 +1,5 @@
 -- The lines of errors of questions about a machine, which are in words. All of it is our choice (agenda).
-use Rattle.std.specs.Prelude.{ℕ, List, ◌++◌, codes, decimal}
+use Rattle.std.specs.Prelude.{ℕ, List, ◌++◌, Option, None, Some, codes, decimal}
 use Rattle.plan_times.specs.declared.fault.TimeFault.{TimeFault}
 use Rattle.plan_times.specs.declared.fault.TimeFault.TheVariants.{BadTime, OutOfYears}
 use Rattle.plan_zones.specs.declared.zone_fault.ZoneFault.{ZoneFault}
@@ -37,13 +37,19 @@ backwards_line since = codes "agenda: --until is before --since (" ++ (since ++ 
 abbrev pub zone_line_with : (text words : List ℕ) → List ℕ
 zone_line_with text words = codes "agenda: zone '" ++ (text ++ words)
 
+-- a zone that doesn't exist, with the name of the zone that may be meant, if there is one
+abbrev pub no_zone_line : (text : List ℕ) → (like : Option (List ℕ)) → List ℕ
+no_zone_line text None = zone_line_with text (codes "': no such zone [NoSuchZone]\n")
+no_zone_line text (Some name) =
+    zone_line_with text (codes "': no such zone; did you mean " ++ (name ++ codes "? [NoSuchZone]\n"))
+
 -- a zone that can't be used. If an allocation failed, the zone is not named
-abbrev pub named_zone_line : (text : List ℕ) → ZoneFault → List ℕ
-named_zone_line text zone.NoMemory = memory_line
-named_zone_line text zone.BadZoneName = zone_line_with text (codes "': not the name of a zone [BadZoneName]\n")
-named_zone_line text zone.NoSuchZone = zone_line_with text (codes "': no such zone [NoSuchZone]\n")
-named_zone_line text zone.TooLarge = zone_line_with text (codes "': larger than 1048576 bytes [TooLarge]\n")
-named_zone_line text zone.BadZone = zone_line_with text (codes "': not a TZif file [BadZone]\n")
+abbrev pub named_zone_line : (text : List ℕ) → ZoneFault → (like : Option (List ℕ)) → List ℕ
+named_zone_line text zone.NoMemory like = memory_line
+named_zone_line text zone.BadZoneName like = zone_line_with text (codes "': not the name of a zone [BadZoneName]\n")
+named_zone_line text zone.NoSuchZone like = no_zone_line text like
+named_zone_line text zone.TooLarge like = zone_line_with text (codes "': larger than 1048576 bytes [TooLarge]\n")
+named_zone_line text zone.BadZone like = zone_line_with text (codes "': not a TZif file [BadZone]\n")
 
 -- an answer with more starts than a limit
 abbrev pub too_many_line : (limit : ℕ) → List ℕ
@@ -56,5 +62,5 @@ machine_line (Time option fault text) = time_line option fault text
 machine_line (Length text) =
     codes "agenda: --least: not a length: '" ++ (text ++ codes "' (such as '90min' or '2h') [BadLength]\n")
 machine_line (Backwards since) = backwards_line since
-machine_line (Zone text fault) = named_zone_line text fault
+machine_line (Zone text fault like) = named_zone_line text fault like
 machine_line Clock = codes "agenda: the system clock is after 2999: set it [OutOfYears]\n"

@@ -309,7 +309,7 @@ fn machine_status(fault: &MachineFault) -> u8
     ensures { result ≡ machine_status fault.now }
 {
     match fault {
-        MachineFault::Zone(_, fault) => zone_status(*fault),
+        MachineFault::Zone(_, fault, _) => zone_status(*fault),
         _ => REJECTED,
     }
 }

@@ -41,8 +41,8 @@ pub enum MachineFault {
     Length(Text),
     /// The end of a span is before its start, which is this time.
     Backwards(LocalStamp),
-    /// The zone with this text can't be used.
-    Zone(Text, ZoneFault),
+    /// The zone with this text can't be used. If there is no such zone, the name of the zone that may be meant follows.
+    Zone(Text, ZoneFault, Option<Text>),
     /// The system clock shows a time after the planner's years.
     Clock,
 }

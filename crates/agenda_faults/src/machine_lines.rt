@@ -2,11 +2,12 @@
 
 ghost use Rattle.std.specs.Prelude.{◌≡◌};
 ghost use Rattle.plan_streams.specs.Writer.{Takes};
-ghost use Rattle.agenda_faults.specs.MachineLines.{backwards_line, machine_line, named_zone_line, time_line, time_words, too_many_line};
+ghost use Rattle.agenda_faults.specs.MachineLines.{backwards_line, machine_line, named_zone_line, no_zone_line, time_line, time_words, too_many_line};
 
 use crate::fault_lines::{MEMORY_LINE, put_between};
 use crate::machine_faults::{MachineFault, TimeOption};
 use itoa::Buffer as Digits;
+use plan_rules::Text;
 use plan_streams::{Stream, TextWriter};
 use plan_times::TimeFault;
 use plan_write::LocalStamp;
@@ -27,7 +28,9 @@ pub(crate) fn put_machine_fault<S: Stream>(fault: &MachineFault, line: &mut Text
             line,
         ),
         MachineFault::Backwards(since) => put_backwards(since, line),
-        MachineFault::Zone(text, fault) => put_named_zone(text.as_str(), *fault, line),
+        MachineFault::Zone(text, fault, like) => {
+            put_named_zone(text.as_str(), *fault, like, line);
+        }
         MachineFault::Clock => {
             line.put(b"agenda: the system clock is after 2999: set it [OutOfYears]\n");
         }
@@ -79,8 +82,13 @@ fn put_backwards<S: Stream>(since: &LocalStamp, line: &mut TextWriter<'_, S>)
 }
 
 // Puts the line of a zone that can't be used, with its text.
-fn put_named_zone<S: Stream>(text: &str, fault: ZoneFault, line: &mut TextWriter<'_, S>)
-    ensures { Takes S.holds S.takes_all line.old line.new (named_zone_line text.now fault) }
+fn put_named_zone<S: Stream>(
+    text: &str,
+    fault: ZoneFault,
+    like: &Option<Text>,
+    line: &mut TextWriter<'_, S>,
+)
+    ensures { Takes S.holds S.takes_all line.old line.new (named_zone_line text.now fault like.now) }
 {
     let about = b"agenda: zone '";
     match fault {
@@ -93,9 +101,7 @@ fn put_named_zone<S: Stream>(text: &str, fault: ZoneFault, line: &mut TextWriter
                 line,
             );
         }
-        ZoneFault::NoSuchZone => {
-            put_between(about, text, b"': no such zone [NoSuchZone]\n", line);
-        }
+        ZoneFault::NoSuchZone => put_no_zone(text, like, line),
         ZoneFault::TooLarge => {
             put_between(
                 about,
@@ -105,6 +111,25 @@ fn put_named_zone<S: Stream>(text: &str, fault: ZoneFault, line: &mut TextWriter
             );
         }
         ZoneFault::BadZone => put_between(about, text, b"': not a TZif file [BadZone]\n", line),
+    }
+}
+
+// Puts the line of a zone that doesn't exist, with the name of the zone that may be meant, if there is one.
+fn put_no_zone<S: Stream>(text: &str, like: &Option<Text>, line: &mut TextWriter<'_, S>)
+    ensures { Takes S.holds S.takes_all line.old line.new (no_zone_line text.now like.now) }
+{
+    let about = b"agenda: zone '";
+    match like {
+        None => put_between(about, text, b"': no such zone [NoSuchZone]\n", line),
+        Some(name) => {
+            line.put_both(about, text.as_bytes());
+            put_between(
+                b"': no such zone; did you mean ",
+                name.as_str(),
+                b"? [NoSuchZone]\n",
+                line,
+            );
+        }
     }
 }
 
