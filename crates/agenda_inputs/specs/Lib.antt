@@ -5,4 +5,5 @@ pub mod MachineZone
 pub mod Opened
 pub mod Sources
 pub mod Steps
+pub mod Suggestion
 pub mod Zone

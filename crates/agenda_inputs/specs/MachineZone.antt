@@ -7,6 +7,7 @@ use Rattle.plan_rules.specs.declared.NamedZone.{NamedZone}
 use Rattle.plan_tree.specs.Tree.{Held as TreeHeld}
 use Rattle.plan_zones.specs.ZoneTexts.{Source, Utc, Path, Name, source_of}
 use Rattle.plan_zones.specs.declared.zone_fault.ZoneFault.{ZoneFault}
+use Rattle.plan_zones.specs.declared.zone_fault.ZoneFault.TheVariants.{NoSuchZone}
 use Rattle.agenda_faults.specs.declared.faults.Failure.{Failure}
 use Rattle.agenda_faults.specs.declared.faults.Failure.TheVariants.{File, Run}
 use Rattle.agenda_faults.specs.declared.faults.Failure.TheVariants as failure
@@ -16,6 +17,7 @@ use Rattle.agenda_inputs.specs.declared.machine_zone.ZoneClock.{ZoneClock}
 use Rattle.agenda_inputs.specs.EventZones.{looked_up}
 use Rattle.agenda_inputs.specs.Files.{Held, most_read}
 use Rattle.agenda_inputs.specs.Steps.{Step, computes, gives, ◌>>=◌}
+use Rattle.agenda_inputs.specs.Suggestion.{suggestion}
 use Rattle.agenda_inputs.specs.Zone.{clock_of, clock_of_bytes}
 
 -- what contracts know of a tree
@@ -33,25 +35,36 @@ abbrev pub fails_with : {X : Type 0} → Failure → Step X
 fails_with failure (Ok x) = ⊥
 fails_with failure (Err found) = (found ≡ failure) ⊎ (found ≡ Run run.NoMemory)
 
--- the failure of a zone that can't be used has the text of the zone, for which an allocation may fail; any other failure stays
-abbrev pub names_failure : {X : Type 0} → (text : List ℕ) → Failure → Step X
-names_failure {X = X} text found end =
-    ((fault : ZoneFault) × (found ≡ failure.Zone fault) × fails_with {X = X} (failure.Machine (machine.Zone text fault)) end)
+-- the name of the zone that may be meant by a text, if there is no zone with this one
+abbrev pub suggestion_for : Held → (text : List ℕ) → ZoneFault → Step (Option (List ℕ))
+suggestion_for held text NoSuchZone = suggestion held text
+suggestion_for held text other = gives None
+
+-- the failure of a zone that can't be used has the text of the zone, and the name of the zone that may be meant
+abbrev pub fails_for_zone : {X : Type 0} → Held → (text : List ℕ) → ZoneFault → Step X
+fails_for_zone held text fault = do
+  like ← suggestion_for held text fault
+  fails_with (failure.Machine (machine.Zone text fault like))
+
+-- any other failure stays
+abbrev pub names_failure : {X : Type 0} → Held → (text : List ℕ) → Failure → Step X
+names_failure {X = X} held text found end =
+    ((fault : ZoneFault) × (found ≡ failure.Zone fault) × fails_for_zone {X = X} held text fault end)
     ⊎ (((fault : ZoneFault) → found ≢ failure.Zone fault) × (end ≡ Err found))
 
 -- what is given, or its failure in that way
-abbrev pub names_zone : {X : Type 0} → (text : List ℕ) → Result X Failure → Step X
-names_zone text (Ok x) = gives x
-names_zone text (Err found) = names_failure text found
+abbrev pub names_zone : {X : Type 0} → Held → (text : List ℕ) → Result X Failure → Step X
+names_zone held text (Ok x) = gives x
+names_zone held text (Err found) = names_failure held text found
 
 -- the same, after a step
-abbrev pub naming_zone : {X : Type 0} → (text : List ℕ) → Step X → Step X
-naming_zone {X = X} text step end = (found : Result X Failure) × step found × names_zone text found end
+abbrev pub naming_zone : {X : Type 0} → Held → (text : List ℕ) → Step X → Step X
+naming_zone {X = X} held text step end = (found : Result X Failure) × step found × names_zone held text found end
 
 -- the zone that `--zone` gives
 abbrev pub given_clock : Held → List ℕ → Step ZoneClock
 given_clock held text = do
-  clock ← naming_zone text (clock_of held (Some text))
+  clock ← naming_zone held text (clock_of held (Some text))
   computes (record { name = Some text; is_of_file = false; clock = clock; is_unknown = false })
 
 -- UTC, which is also the zone if it isn't known

@@ -1,7 +1,7 @@
 //! Reads what an answer is made from: files, time zones, and the sources that a request names.
 //!
 //! Read `files` first, which describes what the program requires of files, then `zone` and `sources`. `machine_files`
-//! and `machine_zone` do the same for a machine, whose tree is below a root.
+//! and `machine_zone` do the same for a machine, whose tree is below a root. `suggestion` is for a zone that doesn't exist.
 #![tactic(auto)]
 
 mod event_zones;
@@ -9,6 +9,7 @@ mod files;
 mod machine_files;
 mod machine_zone;
 mod sources;
+mod suggestion;
 mod zone;
 
 pub use event_zones::{read_zones, zones_of_rule};

@@ -1,19 +1,20 @@
 //! Reads the clock of a machine's time zone (localtime(5)).
 
 ghost use Rattle.std.specs.Prelude.{◌≡◌, IfOk, Ok, option_map};
-ghost use Rattle.agenda_inputs.specs.MachineZone.{clock_by_name, clock_by_zone, clock_if_found, clock_of_file, given_clock, local_path, machine_clock, named_clock, names_zone, utc_clock};
+ghost use Rattle.agenda_inputs.specs.MachineZone.{clock_by_name, clock_by_zone, clock_if_found, clock_of_file, fails_for_zone, given_clock, local_path, machine_clock, named_clock, names_zone, suggestion_for, utc_clock};
 ghost use Rattle.plan_machine.specs.Zone.{zone_shown};
 ghost use Rattle.plan_zones.specs.ZoneTexts.{source_of};
 
 use crate::event_zones::look_up;
 use crate::files::{Files, MOST_READ};
+use crate::suggestion::suggestion;
 use crate::zone::{clock_of_bytes, clock_of_text};
 use agenda_faults::{Failure, MachineFault};
 use plan_clock::Clock;
 use plan_machine::{MachineZone, machine_zone};
 use plan_rules::{NamedZone, Text};
 use plan_tree::Tree;
-use plan_zones::{ZoneSource, zone_source};
+use plan_zones::{ZoneFault, ZoneSource, zone_source};
 use std::alloc::{AllocError, Global};
 
 /// The clock of a machine's time zone.
@@ -58,7 +59,7 @@ fn given_clock<F: Files>(alloc: Global, files: &mut F, text: &str) -> Result<Zon
     ensures same { F.held files.new ≡ F.held files.old }
 {
     let found = clock_of_text(alloc, files, text);
-    let clock = naming_zone(alloc, found, text)?;
+    let clock = naming_zone(alloc, files, found, text)?;
     let name = copy_of(alloc, text)?;
     Ok(ZoneClock {
         name: Some(name),
@@ -69,16 +70,50 @@ fn given_clock<F: Files>(alloc: Global, files: &mut F, text: &str) -> Result<Zon
 }
 
 // Returns the clock of a zone. If the zone can't be used, the error has its text.
-fn naming_zone(alloc: Global, clock: Result<Clock, Failure>, text: &str) -> Result<Clock, Failure>
-    ensures { names_zone text.now clock result }
+fn naming_zone<F: Files>(
+    alloc: Global,
+    files: &mut F,
+    clock: Result<Clock, Failure>,
+    text: &str,
+) -> Result<Clock, Failure>
+    ensures read { names_zone (F.held files.old) text.now clock result }
+    ensures same { F.held files.new ≡ F.held files.old }
 {
     match clock {
         Ok(clock) => Ok(clock),
-        Err(Failure::Zone(fault)) => Err(Failure::Machine(MachineFault::Zone(
-            copy_of(alloc, text)?,
-            fault,
-        ))),
+        Err(Failure::Zone(fault)) => no_zone(alloc, files, text, fault),
         Err(failure) => Err(failure),
+    }
+}
+
+// Returns the failure of a zone that can't be used, with its text.
+fn no_zone<F: Files>(
+    alloc: Global,
+    files: &mut F,
+    text: &str,
+    fault: ZoneFault,
+) -> Result<Clock, Failure>
+    ensures read { fails_for_zone (F.held files.old) text.now fault result }
+    ensures same { F.held files.new ≡ F.held files.old }
+{
+    let like = suggestion_for(alloc, files, text, fault)?;
+    let text = copy_of(alloc, text)?;
+    Err(Failure::Machine(MachineFault::Zone(text, fault, like)))
+}
+
+// Returns the name of the zone that may be meant by a text, if there is no zone with this one.
+fn suggestion_for<F: Files>(
+    alloc: Global,
+    files: &mut F,
+    text: &str,
+    fault: ZoneFault,
+) -> Result<Option<Text>, Failure>
+    ensures read { suggestion_for (F.held files.old) text.now fault result }
+    ensures same { F.held files.new ≡ F.held files.old }
+{
+    match fault {
+        ZoneFault::NoSuchZone => suggestion(alloc, files, text),
+        _ => Ok(None),
     }
 }
 
