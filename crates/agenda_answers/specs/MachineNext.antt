@@ -16,6 +16,7 @@ use Rattle.agenda_answers.specs.declared.machine_next.NextStarts.{NextStarts}
 use Rattle.agenda_answers.specs.Answer.{Exits, Leaves, StreamChange, outputs_if, status_after}
 use Rattle.agenda_inputs.specs.EventZones.{time_zones}
 use Rattle.agenda_inputs.specs.Files.{Held}
+use Rattle.agenda_inputs.specs.MachineFiles.{machine_files}
 use Rattle.agenda_answers.specs.Formats.{format_made, unnamed_zone}
 use Rattle.agenda_answers.specs.Host.{KnownHost}
 use Rattle.agenda_answers.specs.Machine.{host_below}
@@ -24,12 +25,13 @@ use Rattle.agenda_inputs.specs.MachineZone.{machine_clock}
 use Rattle.agenda_answers.specs.Outcome.{ExitsWith}
 use Rattle.agenda_inputs.specs.Steps.{Step, gives, ◌>>=◌}
 
--- what the starts are listed by: the zone of the machine is read first, then the time, and then the zone that an event ends with
+-- what the starts are listed by: the zone of the machine is read first, then the time, and then the zone that an event ends with, from
+-- the machine's files
 abbrev pub starts_at : Held → KnownHost → MachineNext → Step NextStarts
 starts_at held host next = do
   clock ← machine_clock held host.tree [] next.zone
   after ← after_at host.time clock.clock next.after
-  zones ← time_zones held (record { zone = clock.name; event_zones = true }) clock.clock (asked_zones next.rule)
+  zones ← time_zones (machine_files held host.tree) (record { zone = clock.name; event_zones = true }) clock.clock (asked_zones next.rule)
   format ← format_made next.format clock.name (unnamed_zone clock.is_of_file) zones.clock
   gives (record { zones = zones; after = after; format = format; is_zone_unknown = clock.is_unknown })
 

@@ -13,7 +13,7 @@ use agenda_commands::run_next;
 use agenda_faults::status::{DONE, FAILED, REJECTED};
 use agenda_faults::{Failure, RunFault};
 use agenda_findings::rule_fault_line;
-use agenda_inputs::{Files, machine_clock, zones_of_rule};
+use agenda_inputs::{Files, MachineFiles, machine_clock, zones_of_rule};
 use agenda_machine::{Reports, write_reports};
 use agenda_sources::{Asked, TimeZones};
 use plan_streams::Stream;
@@ -80,7 +80,11 @@ fn starts_at<F: Files, T: Tree>(
         zone: clock.name,
         event_zones: true,
     };
-    let zones = zones_of_rule(alloc, files, &zone, clock.clock, &request.rule)?;
+    let mut files = MachineFiles {
+        tree: host.tree,
+        running: files,
+    };
+    let zones = zones_of_rule(alloc, &mut files, &zone, clock.clock, &request.rule)?;
     let format = make_format(alloc, request.format, &zone.zone, unnamed, &zones.clock)?;
     Ok(NextStarts {
         zones,
