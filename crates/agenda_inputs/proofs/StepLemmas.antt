@@ -4,7 +4,7 @@ use Rattle.std.specs.Result.{IsErrAnd}
 use Rattle.agenda_faults.specs.declared.faults.Failure.{Failure}
 use Rattle.agenda_faults.specs.declared.faults.Failure.TheVariants.{Run}
 use Rattle.agenda_faults.specs.declared.faults.RunFault.TheVariants as run
-use Rattle.agenda_inputs.specs.Steps.{Step, ◌>>=◌, computes, stops, goes}
+use Rattle.agenda_inputs.specs.Steps.{Step, ◌>>=◌, computes, stops}
 
 -- a failure was passed on
 pub passed_on :

@@ -1,6 +1,5 @@
 -- The clock of a machine's time zone (localtime(5)).
 use Rattle.std.specs.Prelude.{◌≡◌, ◌≢◌, ◌⊎◌, ℕ, Bool, true, false, List, [], codes, ◌++◌, Option, None, Some, Result, Ok, Err}
-use Rattle.plan_clock.specs.declared.row.Change.{Change}
 use Rattle.plan_machine.specs.Zone.{Zone, machine_zone}
 use Rattle.plan_machine.specs.Zone as zone
 use Rattle.plan_rules.specs.declared.NamedZone.{NamedZone}

@@ -1,5 +1,5 @@
 -- The zone that may be meant by a name that no zone has. All of it is our choice (agenda).
-use Rattle.std.specs.Prelude.{◌≡◌, ℕ, Bool, if◌then◌else◌, List, [], ◌∷◌, filter, codes, Option, None, Some, Result, Ok, Err}
+use Rattle.std.specs.Prelude.{◌≡◌, ℕ, Bool, if◌then◌else◌, List, [], ◌∷◌, filter, codes, Option, None, Some, Ok, Err}
 use Rattle.std.specs.List.{filter_map}
 use Rattle.std.specs.Option.{option_and_then, option_map}
 use Rattle.std.specs.Str.{bytes_eq, str_eq_ignore_ascii_case}
@@ -7,7 +7,6 @@ use Rattle.plan_rules.specs.FileText.{text_reading}
 use Rattle.plan_rules.specs.LineFaults.{TextReading}
 use Rattle.plan_texts.specs.Lines.{cut_word, lines}
 use Rattle.plan_zones.specs.ZoneTexts.{zone_path}
-use Rattle.agenda_faults.specs.declared.faults.Failure.{Failure}
 use Rattle.agenda_faults.specs.declared.faults.Failure.TheVariants.{Run}
 use Rattle.agenda_faults.specs.declared.faults.RunFault.TheVariants as run
 use Rattle.agenda_sources.specs.Name.{file_name}

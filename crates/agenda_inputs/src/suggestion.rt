@@ -59,14 +59,17 @@ fn usable<F: Files>(
     files: &mut F,
     name: Option<&str>,
 ) -> Result<Option<Text>, Failure>
-    ensures read { usable (F.held files.old) (option_map (λ name. name.now) name) result }
+    ensures read { usable (F.held files.old) (option_map (λ name. name.now) name.entry) result }
     ensures same { F.held files.new ≡ F.held files.old }
 {
     let Some(name) = name else {
         return Ok(None);
     };
     let zone = look_up(alloc, files, name)?;
-    Ok(zone.map(|zone| zone.name))
+    match zone {
+        Some(zone) => Ok(Some(zone.name)),
+        None => Ok(None),
+    }
 }
 
 // Returns the one name in the source of the zone database that ends like a text.
@@ -149,11 +152,13 @@ fn alike<'t>(alloc: Global, names: &[&'t str], text: &str) -> Result<Vec<&'t str
     ensures { IfOk result (λ alike. map (λ name. name.now) alike.items
         ≡ filter (ends_alike text.now) (map (λ name. name.now) names.now)) }
 {
-    names
-        .iter()
-        .copied()
-        .filter(|name| ends_alike(name, text))
-        .collect(alloc)
+    let mut alike = Vec::new(alloc);
+    for name in names {
+        if ends_alike(name, text) {
+            alike.push(*name)?;
+        }
+    }
+    Ok(alike)
 }
 
 // Returns whether a name ends in the same part as a text, in any case of ASCII letters.
