@@ -1,0 +1,4 @@
+pub mod CountLemmas
+pub mod OrderLemmas
+pub mod RankingLemmas
+pub mod TallyLemmas
