@@ -67,7 +67,7 @@ any_moment_and_rule : (name after cron : List ℕ) → IsPlainWord after → IsP
     ≡ (Ok (asks_next after in_utc 1 (Cron cron) as_text), None)
 unfolding asked_by clap_on_literals agenda_on_literals
 any_moment_and_rule name after cron a c =
-    rw (a.trailing, a.long, a.short, c.trailing, c.long, c.short) (refl {a = Ok (asks_next after in_utc 1 (Cron cron) as_text)})
+    rw (a.trailing, a.long, a.short, c.trailing, c.long, c.short) (refl {a = (Ok (asks_next after in_utc 1 (Cron cron) as_text), None)})
 
 -- the same after `t`
 abbrev asks_after_t : ZonesRequest → (count : ℕ) → Asked → FormatRequest → Result Ask ArgumentsFault
