@@ -2,4 +2,3 @@ mod FoldLemmas
 mod SlashLemmas
 mod FindingLemmas
 mod ZoneNamesLemmas
-pub mod ZonedLemmas

@@ -10,7 +10,7 @@ use Rattle.plan_mailbox.specs.declared.replies.Reply.{Reply}
 use Rattle.plan_mailbox.specs.History.{event_of, record_of}
 use Rattle.plan_mailbox.specs.Reply.{reply_after, RepliesInTurn}
 use Rattle.plan_mailbox.specs.Mailbox.{Mailbox, senders_of, reply_of, after, IsNew}
-use Rattle.plan_mailbox.proofs.Places.{all_yielded, slice_get_before, slice_get_last}
+use Rattle.plan_mailbox.proofs.Places.{slice_get_before, slice_get_last}
 use Rattle.plan_mailbox.proofs.Steps.{Keeps, Keeps-step, Keeps-new, reply_of-left}
 use Rattle.std.proofs.lemmas.Bool.Decides.{nat_tests}
 use Rattle.std.proofs.lemmas.Grind.{common_steps}
@@ -66,9 +66,3 @@ IsRun-push {M} senders room xs rs b x run =
       keeps = subst (λ h. Keeps senders room h (after b x)) (sym (record_of-push xs rs x r run.as_many))
           (Keeps-step senders room (record_of xs rs) b x run.keeps);
     }
-
--- every step was performed, since none are left
-pub IsRun-all :
-    {M : Type 0} (senders room : ℕ) (done left all : List (Step M)) (rs : List (Reply M)) (b : Mailbox M) →
-    IsRun senders room done rs b → done ++ left ≡ all → length left ≡ 0 → IsRun senders room all rs b
-IsRun-all senders room done left all rs b run e none = subst (λ steps. IsRun senders room steps rs b) (all_yielded done left all e none) run

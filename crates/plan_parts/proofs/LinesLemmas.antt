@@ -52,13 +52,6 @@ pub lines_of_written : (ls : List (List ℕ)) → All HasNoNewline ls → lines 
 lines_of_written ls none =
     ap lines (sym (append-nil (written ls))) ∙ lines_written ls [] none ∙ ap (λ more. ls ++ more) no_lines ∙ append-nil ls
 
-pub lines_with_newline : (text : List ℕ) → lines (with_newline text) ≡ lines text
-lines_with_newline text =
-    ap lines (sym (append-nil (with_newline text)))
-    ∙ lines_before text []
-    ∙ ap (λ ls. lines text ++ ls) no_lines
-    ∙ append-nil (lines text)
-
 pub lines_between : (rest : List ℕ) → lines (between ++ rest) ≡ [] ∷ codes "[Unit]" ∷ lines rest
 lines_between rest =
     lines_line [] (codes "[Unit]\n" ++ rest) refl ∙ ap (λ ls. [] ∷ ls) (lines_line (codes "[Unit]") rest refl)

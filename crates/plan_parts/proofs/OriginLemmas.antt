@@ -2,7 +2,7 @@
 use Rattle.std.proofs.Common.{◌≡◌, ℕ, zero, suc, ◌+◌, ◌-◌, ◌<◌, ◌≤◌, Bool, true, false, cond, eqb, nat_le, List, [], ◌∷◌, ◌++◌, length, get_or, drop, codes, Option, None, refl, ap, sym, subst, ◌∙◌, length-drop, arith, inl, inr}
 use Rattle.std.proofs.lemmas.Bool.{cases_lt}
 use Rattle.std.proofs.lemmas.Bool.Decides.{nat_tests}
-use Rattle.std.proofs.lemmas.List.{append-nil, drop_more, drop_all, length-map}
+use Rattle.std.proofs.lemmas.List.{append-nil, drop_more, length-map}
 use Rattle.std.specs.List.{slice_get}
 use Rattle.plan_texts.specs.Lines.{lines}
 use Rattle.plan_parts.specs.declared.origin.Origin.{Origin}
@@ -176,26 +176,6 @@ pub record IsReached (files : List FileBytes) (line place left : ℕ) : Type 0 w
   pub same : origin_of (texts_of files) line ≡ shifted place (origin_of (texts_of (drop place files)) left)
   pub here : 0 < length files → place < length files
 
-pub reached_first : (files : List FileBytes) (line : ℕ) → IsReached files line 0 line
-reached_first files line =
-    let o = origin_of (texts_of files) line in
-    let none : 0 + o.part ≡ o.part = omega arith in
-    record { same = sym (ap (λ p. record { part = p; line = o.line }) none); here = λ some. some }
-
-shifted_here : (place left : ℕ) (o : Origin) → o ≡ record { part = 0; line = left } → shifted place o ≡ record { part = place; line = left }
-shifted_here place left o is =
-    let none : place + 0 ≡ place = omega arith in
-    ap (shifted place) is ∙ ap (λ p. record { part = p; line = left }) none
-
--- a line of the first text is in that text
-first_has :
-    (text : List ℕ) (more : List (List ℕ)) (left : ℕ) → left ≤ length (lines text) →
-    origin_of (text ∷ more) left ≡ record { part = 0; line = left }
-first_has text [] left fits = refl
-first_has text (next ∷ more) left fits =
-    let first : nat_le left (length (lines text)) ≡ true = grind (arith, nat_tests) in
-    rw first refl
-
 -- a line after the first text is in the texts that follow
 first_lacks :
     (text : List ℕ) (more : List (List ℕ)) (left : ℕ) → 0 < length more → length (lines text) < left →
@@ -204,28 +184,6 @@ first_lacks text [] left some later = absurd (omega (arith, some))
 first_lacks text (next ∷ more) left some later =
     let first : nat_le left (length (lines text)) ≡ false = grind (arith, nat_tests) in
     rw first refl
-
--- the line is in the last file
-pub reached_last :
-    (files : List FileBytes) (line place left : ℕ) → IsReached files line place left → place + 1 ≡ length files →
-    origin_of (texts_of files) line ≡ record { part = place; line = left }
-reached_last files line place left so_far last =
-    let d : FileBytes = record { path = []; bytes = [] } in
-    let one : drop place files ≡ get_or files place d ∷ drop (place + 1) files = drop_more files place d (omega (arith, last)) in
-    let none : drop (place + 1) files ≡ [] = drop_all (place + 1) files (omega (arith, last)) in
-    so_far.same
-    ∙ shifted_here place left (origin_of (texts_of (drop place files)) left)
-    (ap (λ fs. origin_of (texts_of fs) left) (one ∙ ap (λ fs. get_or files place d ∷ fs) none))
-
--- the line is in a file that has so many lines
-pub reached_here :
-    (files : List FileBytes) (line place left : ℕ) (d : FileBytes) → IsReached files line place left → place < length files →
-    left ≤ length (lines (get_or files place d).bytes) → origin_of (texts_of files) line ≡ record { part = place; line = left }
-reached_here files line place left d so_far inside fits =
-    so_far.same
-    ∙ shifted_here place left (origin_of (texts_of (drop place files)) left)
-    (ap (λ fs. origin_of (texts_of fs) left) (drop_more files place d inside)
-    ∙ first_has (get_or files place d).bytes (texts_of (drop (place + 1) files)) left fits)
 
 -- the line is in a later file
 reached_next :

@@ -10,7 +10,7 @@ use Rattle.plan_collect.specs.declared.note.Note.TheVariants as note
 use Rattle.plan_collect.specs.declared.collector.CollectFault.TheVariants as collect
 use Rattle.plan_collect.specs.Span.{Bounds}
 use Rattle.plan_collect.specs.Agenda.{Planned}
-use Rattle.plan_collect.specs.Collecting.{Collected, begun, firsts_of, after, is_complete, finished}
+use Rattle.plan_collect.specs.Collecting.{Collected, firsts_of, after, is_complete, finished}
 use Rattle.plan_collect.specs.Windows.{Timing, first_second, planned_windows}
 use Rattle.std.proofs.lemmas.Bool.Decides.{nat_tests}
 use Rattle.std.proofs.lemmas.Grind.{common_steps}
@@ -28,11 +28,6 @@ pub record IsUpTo (timings : List Timing) (span : Bounds) (limit done : ℕ) (c 
   pub limit_is : c.limit ≡ limit
   pub none_ended : c.ended ≡ false ∷ []
   pub covered : c.covered ≡ covered_to done span timings
-
--- at the start no pieces were collected
-pub IsUpTo-begun :
-    (timings : List Timing) (span : Bounds) (limit : ℕ) (c : Collected) → c ≡ begun timings span 1 limit → IsUpTo timings span limit 0 c
-IsUpTo-begun timings span limit c is = grind (arith, nat_tests, common_steps)
 
 -- the next job is covered to its first second
 pub next_at :

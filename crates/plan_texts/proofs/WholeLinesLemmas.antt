@@ -62,10 +62,6 @@ front_is : (b : Bool) (text front : List ℕ) → Some front ≡ cond b (Some te
 front_is true text front is = (refl, same_Some _ _ is)
 front_is false text front is = absurd (none-some _ (sym is))
 
-none_is : (b : Bool) (text : List ℕ) → None ≡ cond b (Some text) None → b ≡ false
-none_is true text is = absurd (none-some _ is)
-none_is false text is = refl
-
 -- the line that is to be continued, or else a new one without a text, with a text behind it
 held_more :
     (held : Option WholeLine) (new : WholeLine) (text : List ℕ) (rest : List (ℕ × List ℕ)) → string_bytes new.text ≡ [] →
@@ -75,12 +71,6 @@ held_more None new text rest empty = ap (λ front. in_front new.number (front ++
 held_more (Some line) new text [] empty = refl
 held_more (Some line) new text (next ∷ more) empty = grind (arith, nat_tests, append_assoc)
 
-held_last :
-    (held : Option WholeLine) (new : WholeLine) (text : List ℕ) (rest : List (ℕ × List ℕ)) → string_bytes new.text ≡ [] →
-    ((unwrap_or held new).number, string_bytes (unwrap_or held new).text ++ text) ∷ rest ≡ resumed held ((new.number, text) ∷ rest)
-held_last None new text rest empty = ap (λ front. (new.number, front ++ text) ∷ rest) empty
-held_last (Some line) new text rest empty = refl
-
 -- a text that is continued goes behind that line
 pub continued :
     (held : Option WholeLine) (new whole : WholeLine) (text front bytes : List ℕ) (rest : List (ℕ × List ℕ)) →
@@ -89,12 +79,3 @@ pub continued :
     bytes ≡ (string_bytes whole.text ++ front) ++ 32 ∷ [] →
     in_front whole.number bytes rest ≡ resumed held (with_line (new.number, text) rest)
 continued held new whole text front bytes rest empty is cut all = grind (arith, nat_tests, front_is, append_assoc, held_more)
-
--- any other text ends it
-pub ended :
-    (held : Option WholeLine) (new whole : WholeLine) (text bytes : List ℕ) (rest : List (ℕ × List ℕ)) →
-    string_bytes new.text ≡ [] → whole ≡ unwrap_or held new →
-    None ≡ cond (is_joined text) (Some (take (length text - 1) text)) None →
-    bytes ≡ string_bytes whole.text ++ text →
-    (whole.number, bytes) ∷ rest ≡ resumed held (with_line (new.number, text) rest)
-ended held new whole text bytes rest empty is cut all = grind (arith, nat_tests, held_last, none_is)

@@ -146,11 +146,3 @@ goes_on clock start from upto row lt is same shown = record {
       (let whole = same n low high ∙ sym is in
       ap (λ (r : Row). natural (pos (n + first_local) +ℤ r.offset)) whole ∙ shown_from n start row.offset shown);
 }
-
--- what is picked is before the end
-pub picked_before :
-    (latest : Bool) (P : ℕ → Type 0) (end : ℕ) (answer : Option ℕ) → IsPicked latest P (end + 1) answer →
-    IfSome answer (λ n. n ≤ end)
-picked_before latest P end None have = tt
-picked_before true P end (Some n) have = (let lt = have.0 in omega arith)
-picked_before false P end (Some n) have = (let lt = have.0 in omega arith)

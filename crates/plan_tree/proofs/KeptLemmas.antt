@@ -1,14 +1,13 @@
 -- What is kept of a tree stays so.
-use Rattle.std.proofs.Common.{◌≡◌, ℕ, Bool, true, false, List, [], ◌∷◌, ◌++◌, Option, None, Some, MatchOption, IfSome, Bor, ◌+◌, take, drop, take-append-drop, lit<, arith, cond, is_some, string_bytes, length, ◌<◌, refl, ap, sym, ◌∙◌, subst, inl, inr, ◌⊎◌}
+use Rattle.std.proofs.Common.{◌≡◌, ℕ, Bool, true, false, List, [], ◌∷◌, ◌++◌, Option, None, Some, MatchOption, IfSome, Bor, ◌+◌, take, drop, take-append-drop, lit<, arith, cond, is_some, length, ◌<◌, refl, ap, sym, ◌∙◌, subst, inl, inr, ◌⊎◌}
 use Rattle.std.proofs.lemmas.Bool.{or_cases}
 use Rattle.std.proofs.lemmas.List.{drop_more}
 use Rattle.std.proofs.lemmas.List.Folds.{list_any-append}
 use Rattle.std.proofs.lemmas.Slice.Eq.{bytes_eq-Decides}
-use Rattle.std.specs.HashMap.{IsEmpty}
 use Rattle.std.proofs.lemmas.Str.{len_utf8_ascii}
 use Rattle.std.proofs.lemmas.Str.Pattern.{NoCharPasses-char}
 use Rattle.std.specs.Str.Pattern.{RFindsChar, SplitsAroundMatch}
-use Rattle.std.specs.Map.{lookup, update}
+use Rattle.std.specs.Map.{update}
 use Rattle.std.specs.Str.{bytes_eq}
 use Rattle.plan_tree.specs.declared.kept.Kept.{Kept}
 use Rattle.plan_tree.specs.declared.kept.KeptDir.{KeptDir}
@@ -70,20 +69,6 @@ pub keeps_with_node :
 keeps_with_node held old new path node dirs nodes is = grind (arith, nat_tests, same_by, none_by, some_by)
 
 -- ---- one after the other
-
-pub nothing_kept : (held : Held) (kept : Kept) → IsEmpty kept.nodes → IsEmpty kept.dirs → IsKept held kept
-nothing_kept held kept nodes dirs = (
-  λ path node found. absurd (no_node (sym (ap (lookup (λ k. bytes_eq path (string_bytes k))) nodes) ∙ found)),
-  λ path dir found. absurd (no_dir (sym (ap (lookup (λ k. bytes_eq path (string_bytes k))) dirs) ∙ found)),
-  λ path dir name found complete ordinary none.
-      absurd (no_dir (sym (ap (lookup (λ k. bytes_eq path (string_bytes k))) dirs) ∙ found)),
-)
-  where
-    no_node : {node : Node} → None ≡ Some node → ⊥
-    no_node is = cc
-
-    no_dir : {dir : KeptDir} → None ≡ Some dir → ⊥
-    no_dir is = cc
 
 pub keeps_both : (held : Held) (first next last : Kept) → Keeps held first next → Keeps held next last → Keeps held first last
 keeps_both held first next last one other = (λ is. other.0 (one.0 is), λ path some. other.1 path (one.1 path some))
