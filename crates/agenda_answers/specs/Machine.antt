@@ -3,7 +3,7 @@ use Rattle.std.specs.Prelude.{◌≡◌, ◌⊎◌, ℕ, Bool, true, false, not,
 use Rattle.std.specs.Io.KnownBytes.{Appends, Keeps}
 use Rattle.plan_clock.specs.declared.row.Change.{Change}
 use Rattle.plan_streams.specs.Stream.{BreaksOff}
-use Rattle.plan_timers.specs.Accuracy.{default_accuracy}
+use Rattle.plan_services.specs.Accuracy.{default_accuracy}
 use Rattle.plan_tree.specs.Tree.{Held as TreeHeld, below, is_directory, path_below}
 use Rattle.plan_machine.specs.Machine.{AreTooManyUnits, IsMachine}
 use Rattle.plan_machine.specs.declared.machine.Machine.{Machine}

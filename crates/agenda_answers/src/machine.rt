@@ -28,7 +28,7 @@ use plan_collect::{CollectFault, PlanFault};
 use plan_machine::{Machine, find_machine};
 use plan_rules::{Jobs, Text};
 use plan_streams::Stream;
-use plan_timers::default_accuracy;
+use plan_services::default_accuracy;
 use plan_tree::{Complete, Rooted, Tree, is_directory};
 use std::alloc::{AllocError, Global};
 use std::sync::Wait;

@@ -50,12 +50,15 @@ has_package sources name = list_any (λ source. is_package source name) sources
 
 -- ---- a crontab
 
--- a crontab is a source if it can be read and no earlier one has its name (agenda)
+-- a crontab that can be read is a source if no earlier one has its name (agenda)
+abbrev pub with_crontab : Sources → List ℕ → SourceParts → Sources
+with_crontab all path source =
+    if is_taken all.found (taken_name source) then with_skipped all path NameTaken else with_source all source
+
+-- a crontab, if it can be read
 abbrev pub with_file : Sources → SourceKind → List ℕ → List ℕ → Option FileBytes → Sources
 with_file all kind path name None = with_skipped all path NotReadable
-with_file all kind path name (Some file) =
-    let source : SourceParts = record { kind = kind; name = name; parts = One file } in
-    if is_taken all.found (taken_name source) then with_skipped all path NameTaken else with_source all source
+with_file all kind path name (Some file) = with_crontab all path (record { kind = kind; name = name; parts = One file })
 
 -- ---- all crontabs
 

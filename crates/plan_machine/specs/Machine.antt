@@ -5,7 +5,7 @@ use Rattle.std.specs.Str.{bytes_eq}
 use Rattle.plan_rules.specs.declared.source_kind.SourceKind.TheVariants.{Timer}
 use Rattle.plan_timers.specs.declared.reports.NotPlanned.{NotPlanned}
 use Rattle.plan_timers.specs.declared.reports.Skipped.{Skipped}
-use Rattle.plan_timers.specs.Planned.{not_planned, planned}
+use Rattle.plan_services.specs.Planned.{not_planned, planned}
 use Rattle.plan_timers.specs.Reports.{why_text}
 use Rattle.plan_timers.specs.Source.{TimerParts, parts_of_timer}
 use Rattle.plan_timers.specs.Timers.{AreMachineTimers, FoundTimers}
@@ -71,16 +71,22 @@ distinct skipped = new_after [] skipped
 abbrev pub with_new : List Skipped → Skipped → (is_new : Bool) → List Skipped
 with_new once one is_new = if is_new then once ++ one ∷ [] else once
 
--- what is found on a machine with these timers: its crontabs come first (agenda)
+-- what is found on a machine with these sources in crontabs, which come first, and these timers (agenda)
+abbrev pub machine_with : Held → List SourceParts → List Skipped → List TimerParts → List NotPlanned → Bool → FoundMachine
+machine_with held crontabs skipped timers others lacks_cron_daemon =
+    record {
+      sources = crontabs ++ map timer_source timers;
+      skipped = skipped;
+      unplanned = unplanned_of held others;
+      lacks_cron_daemon = lacks_cron_daemon;
+    }
+
+-- what is found on a machine with these timers
 abbrev pub machine_of : Held → List UnitDir → (most : ℕ) → FoundTimers → FoundMachine
 machine_of held dirs most timers =
     let crontabs = crontabs_of held most in
-    record {
-      sources = crontabs.found ++ map timer_source (planned held dirs timers.sources);
-      skipped = distinct (crontabs.skipped ++ timers.skipped);
-      unplanned = unplanned_of held (not_planned held dirs timers.sources);
-      lacks_cron_daemon = lacks_cron_daemon held.node crontabs.found;
-    }
+    machine_with held crontabs.found (distinct (crontabs.skipped ++ timers.skipped)) (planned held dirs timers.sources)
+    (not_planned held dirs timers.sources) (lacks_cron_daemon held.node crontabs.found)
 
 -- what is found on a machine whose units are in these directories
 abbrev pub IsMachineOf : Held → List UnitDir → (all : Bool) → (most : ℕ) → Machine → Type 0

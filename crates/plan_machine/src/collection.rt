@@ -1,12 +1,11 @@
 //! The sources of a machine and what is skipped, as they are found.
 
 ghost use Rattle.std.specs.Prelude.{◌≡◌, IfOk};
-ghost use Rattle.plan_machine.specs.Collection.{has_package, is_package, is_taken, no_sources, with_file, with_skipped, with_source};
+ghost use Rattle.plan_machine.specs.Collection.{has_package, is_package, is_taken, no_sources, with_crontab, with_file, with_skipped, with_source};
 
 use crate::source::MachineSource;
 use plan_parts::{Part, Parts};
 use plan_rules::SourceKind;
-use plan_texts::Text;
 use plan_timers::{Skipped, Why, copy_of};
 use std::alloc::{AllocError, Global};
 use std::marker::Model;
@@ -70,9 +69,15 @@ impl MachineSources {
     }
 
     // Adds something that is skipped.
-    pub(crate) fn with_skipped(self, path: Text, why: Why) -> Result<MachineSources, AllocError>
-        ensures { IfOk result (λ all. all ≡ with_skipped self path why) }
+    pub(crate) fn with_skipped(
+        self,
+        alloc: Global,
+        path: &str,
+        why: Why,
+    ) -> Result<MachineSources, AllocError>
+        ensures { IfOk result (λ all. all ≡ with_skipped self path.now why) }
     {
+        let path = copy_of(alloc, path)?;
         let MachineSources { found, skipped } = self;
         let mut skipped = skipped;
         skipped.push(Skipped { path, why })?;
@@ -91,11 +96,23 @@ impl MachineSources {
         ensures { IfOk result (λ all. all ≡ with_file self kind path.now name.now file) }
     {
         let Some(file) = file else {
-            return self.with_skipped(copy_of(alloc, path)?, Why::NotReadable);
+            return self.with_skipped(alloc, path, Why::NotReadable);
         };
         let source = MachineSource::new(kind, copy_of(alloc, name)?, Parts::One(file));
+        self.with_crontab(alloc, path, source)
+    }
+
+    // Adds a crontab that can be read, or that an earlier one has its name.
+    fn with_crontab(
+        self,
+        alloc: Global,
+        path: &str,
+        source: MachineSource,
+    ) -> Result<MachineSources, AllocError>
+        ensures { IfOk result (λ all. all ≡ with_crontab self path.now source) }
+    {
         if is_taken(self.found(), source.taken_name()) {
-            return self.with_skipped(copy_of(alloc, path)?, Why::NameTaken);
+            return self.with_skipped(alloc, path, Why::NameTaken);
         }
         self.with_source(source)
     }

@@ -10,7 +10,7 @@ use crate::files::{file_at, lead_of};
 use crate::source::is_bad_name;
 use crate::spool::with_spool;
 use plan_rules::SourceKind;
-use plan_timers::{Why, copy_of};
+use plan_timers::Why;
 use plan_tree::{Name, Place, Tree};
 use std::alloc::{AllocError, Global};
 
@@ -94,7 +94,7 @@ fn with_package<T: Tree>(
 {
     let path = Place::at(alloc, dir)?.child(alloc, name)?;
     if is_bad_name(SourceKind::CronD, name) {
-        return all.with_skipped(copy_of(alloc, path.as_str())?, Why::BadName);
+        return all.with_skipped(alloc, path.as_str(), Why::BadName);
     }
     let end = lead_of(alloc, tree, path.as_str())?;
     let file = file_at(alloc, tree, most, path.as_str(), &end)?;

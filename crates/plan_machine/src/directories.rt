@@ -7,7 +7,7 @@ ghost use Rattle.plan_machine.specs.Directories.{can_search, is_directory, is_di
 
 use crate::collection::MachineSources;
 use crate::files::lead_of;
-use plan_timers::{Why, copy_of};
+use plan_timers::Why;
 use plan_tree::{End, Listing, Name, Node, Place, Tree, entries};
 use std::alloc::{AllocError, Global};
 
@@ -149,13 +149,13 @@ pub(crate) fn read_directory<T: Tree>(
                 Ok((all, listing.names))
             }
             None => {
-                let all = all.with_skipped(copy_of(alloc, path)?, Why::NotReadable)?;
+                let all = all.with_skipped(alloc, path, Why::NotReadable)?;
                 Ok((all, Vec::new(alloc)))
             }
         },
         End::Nothing => Ok((all, Vec::new(alloc))),
         End::Unknown => {
-            let all = all.with_skipped(copy_of(alloc, path)?, Why::NotReadable)?;
+            let all = all.with_skipped(alloc, path, Why::NotReadable)?;
             Ok((all, Vec::new(alloc)))
         }
     }
@@ -173,5 +173,5 @@ fn with_whole(
     if is_whole {
         return Ok(all);
     }
-    all.with_skipped(copy_of(alloc, path)?, Why::NotUtf8)
+    all.with_skipped(alloc, path, Why::NotUtf8)
 }

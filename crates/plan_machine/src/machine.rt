@@ -1,18 +1,16 @@
 //! All that is found on a machine: its sources, what is skipped, and what isn't planned.
 
-ghost use Rattle.std.specs.Prelude.{◌≡◌, true, IfOk, IfNone, IfSome, map, string_bytes};
+ghost use Rattle.std.specs.Prelude.{◌≡◌, ◌++◌, true, IfOk, IfNone, IfSome, OnOk, map, string_bytes};
 ghost use Rattle.plan_timers.specs.Timers.{found_view};
-ghost use Rattle.plan_machine.specs.Machine.{AreTooManyUnits, IsMachine, distinct, machine_of, machine_view, option_list, said, timer_source, unplanned_of, with_new};
+ghost use Rattle.plan_machine.specs.Machine.{AreTooManyUnits, IsMachine, distinct, machine_of, machine_view, machine_with, option_list, said, timer_source, unplanned_of, with_new};
 
 use crate::cron::crontabs;
 use crate::daemon::lacks_cron_daemon;
 use crate::others::{anacron_jobs, at_jobs, user_timers};
 use crate::source::MachineSource;
 use plan_rules::{Names, SourceKind};
-use plan_timers::{
-    NotPlanned, PlannedTimers, Skipped, TimerSource, TimersFound, copy_of, machine_timers,
-    planned_timers,
-};
+use plan_services::{PlannedTimers, planned_timers};
+use plan_timers::{NotPlanned, Skipped, TimerSource, TimersFound, copy_of, machine_timers};
 use plan_tree::{Complete, Listed, Tree};
 use plan_units::{UnitDir, search_path};
 use std::alloc::{AllocError, Global};
@@ -102,16 +100,30 @@ fn machine_of<T: Tree>(
 {
     let crontabs = crontabs(alloc, tree, most)?;
     let lacks_cron_daemon = lacks_cron_daemon(alloc, tree, crontabs.found())?;
-    let (mut sources, mut skipped) = crontabs.into_lists();
+    let (sources, skipped) = crontabs.into_lists();
     let TimersFound {
         sources: timers,
-        skipped: mut more,
+        skipped: more,
     } = timers;
-    skipped.append(&mut more)?;
-    let skipped = distinct(alloc, skipped)?;
-    let PlannedTimers { planned, others } = planned_timers(alloc, tree, dirs, timers)?;
-    let mut timers = timer_sources(alloc, planned)?;
-    sources.append(&mut timers)?;
+    let skipped = all_skipped(alloc, skipped, more)?;
+    let timers = planned_timers(alloc, tree, dirs, timers)?;
+    machine_with(alloc, tree, sources, skipped, timers, lacks_cron_daemon)
+}
+
+// Returns what is found on a machine with these sources in crontabs and these timers.
+fn machine_with<T: Tree>(
+    alloc: Global,
+    tree: &T,
+    sources: Vec<MachineSource>,
+    skipped: Vec<Skipped>,
+    timers: PlannedTimers,
+    lacks_cron_daemon: bool,
+) -> Result<Machine, AllocError>
+    ensures { T.is_known ≡ true → IfOk result (λ machine. machine_view machine
+        ≡ machine_with (T.held tree.now) sources.items skipped.items timers.planned.items timers.others.items lacks_cron_daemon) }
+{
+    let PlannedTimers { planned, others } = timers;
+    let sources = with_timers(alloc, sources, planned)?;
     let unplanned = unplanned_of(alloc, tree, others)?;
     Ok(Machine {
         sources,
@@ -119,6 +131,34 @@ fn machine_of<T: Tree>(
         unplanned,
         lacks_cron_daemon,
     })
+}
+
+// Returns what is skipped in two lists, without what is said twice.
+fn all_skipped(
+    alloc: Global,
+    skipped: Vec<Skipped>,
+    more: Vec<Skipped>,
+) -> Result<Vec<Skipped>, AllocError>
+    ensures { IfOk result (λ once. once.items ≡ distinct (skipped.items ++ more.items)) }
+{
+    let mut skipped = skipped;
+    let mut more = more;
+    skipped.append(&mut more)?;
+    distinct(alloc, skipped)
+}
+
+// Returns some sources, and those that some timers are.
+fn with_timers(
+    alloc: Global,
+    sources: Vec<MachineSource>,
+    timers: Vec<TimerSource>,
+) -> Result<Vec<MachineSource>, AllocError>
+    ensures { IfOk result (λ all. all.items ≡ sources.items ++ map timer_source timers.items) }
+{
+    let mut sources = sources;
+    let mut more = timer_sources(alloc, timers)?;
+    sources.append(&mut more)?;
+    Ok(sources)
 }
 
 // Returns the sources that some timers are.
@@ -181,20 +221,19 @@ fn distinct(alloc: Global, skipped: Vec<Skipped>) -> Result<Vec<Skipped>, AllocE
         let text = said(alloc, &one)?;
         let is_new = !told.contains(text.as_str());
         told.add(alloc, text.as_str())?;
-        once = with_new(once, one, is_new)?;
+        add_if_new(&mut once, one, is_new)?;
     }
     Ok(once)
 }
 
-// Returns what is skipped, and one thing more if it is new.
-fn with_new(once: Vec<Skipped>, one: Skipped, is_new: bool) -> Result<Vec<Skipped>, AllocError>
-    ensures { IfOk result (λ after. after.items ≡ with_new once.items one is_new) }
+// Adds something that is skipped if it is new.
+fn add_if_new(once: &mut Vec<Skipped>, one: Skipped, is_new: bool) -> Result<(), AllocError>
+    ensures { OnOk result (once.new.items ≡ with_new once.old.items one is_new) }
 {
-    let mut once = once;
     if is_new {
         once.push(one)?;
     }
-    Ok(once)
+    Ok(())
 }
 
 // Returns what is said of something that is skipped.

@@ -1,6 +1,9 @@
 //! The crontabs of users.
 
 ghost use Rattle.std.specs.Prelude.{◌≡◌, true, IfOk};
+ghost use Rattle.plan_rules.specs.declared.source_kind.SourceKind.TheVariants.{Spool};
+ghost use Rattle.plan_machine.specs.Collection.{with_file};
+ghost use Rattle.plan_machine.specs.Files.{file_at};
 ghost use Rattle.plan_machine.specs.Spool.{is_closed, is_name_of, is_spool, spool_name, spool_of, spool_parent, user_name, with_spool, with_spool_in, with_user, with_users};
 
 use crate::collection::{MachineSources, has_package};
@@ -163,17 +166,27 @@ fn with_user<T: Tree>(
         return Ok(all);
     }
     if is_bad_name(SourceKind::Spool, name) {
-        return all.with_skipped(copy_of(alloc, path.as_str())?, Why::BadName);
+        return all.with_skipped(alloc, path.as_str(), Why::BadName);
     }
-    let file = file_at(alloc, tree, most, path.as_str(), &end)?;
     let given = user_name(alloc, all.found(), names, name)?;
-    all.with_file(
-        alloc,
-        SourceKind::Spool,
-        path.as_str(),
-        given.as_str(),
-        file,
-    )
+    with_user_file(alloc, tree, most, path.as_str(), &end, all, given.as_str())
+}
+
+// Adds the crontab of a user, by the path that leads to its file and the name that its jobs get.
+fn with_user_file<T: Tree>(
+    alloc: Global,
+    tree: &T,
+    most: u64,
+    path: &str,
+    end: &End,
+    all: MachineSources,
+    given: &str,
+) -> Result<MachineSources, AllocError>
+    ensures { T.is_known ≡ true → IfOk result (λ new.
+        new ≡ with_file all Spool path.now given.now (file_at (T.held tree.now) most path.now end.now)) }
+{
+    let file = file_at(alloc, tree, most, path, end)?;
+    all.with_file(alloc, SourceKind::Spool, path, given, file)
 }
 
 // Returns the name that the jobs of a user's crontab get.

@@ -9,7 +9,3 @@ pub mod Wishes
 pub mod Unwanted
 pub mod Files
 pub mod Timers
-pub mod Texts
-pub mod Started
-pub mod Planned
-pub mod Accuracy

@@ -16,10 +16,14 @@ pub record TimerParts : Type 0 where
 abbrev pub files_of_timer : TimerParts → List FileBytes
 files_of_timer timer = timer.file ∷ timer.drop_ins
 
+-- the files of a unit with a name
+abbrev pub parts_of_unit : List ℕ → List FileBytes → Parts
+parts_of_unit unit files = OfUnit (record { unit = unit; files = files })
+
 abbrev pub parts_by : (timer : TimerParts) → List FileBytes → Parts
 parts_by timer [] =
-    if has_at timer.unit then OfUnit (record { unit = timer.unit; files = files_of_timer timer }) else One timer.file
-parts_by timer (drop_in ∷ more) = OfUnit (record { unit = timer.unit; files = files_of_timer timer })
+    if has_at timer.unit then parts_of_unit timer.unit (files_of_timer timer) else One timer.file
+parts_by timer (drop_in ∷ more) = parts_of_unit timer.unit (files_of_timer timer)
 
 -- only a timer that is no instance and has no drop-ins is read as its file is: of the others the files are merged, and the
 -- specifiers of an instance are replaced (systemd.unit(5))

@@ -50,14 +50,16 @@ with_skipped found more = record { sources = found.sources; skipped = found.skip
 abbrev pub with_wish : Held → KnownUnits → FoundTimers → List ℕ → Why → FoundTimers
 with_wish held units found name why = with_skipped found (record { path = wish_of held units name; why = why })
 
+-- one source more, and what else is skipped
+abbrev pub with_source : FoundTimers → TimerParts → List Skipped → FoundTimers
+with_source found source more = record { sources = found.sources ++ source ∷ []; skipped = found.skipped ++ more }
+
 -- a timer is a source with its file and those of its drop-ins that can be read; the other drop-ins are skipped
 abbrev pub with_file : Held → KnownUnits → FoundTimers → List ℕ → List ℕ → FileBytes → FoundTimers
 with_file held units found name job file =
     let drop_ins = drop_in_entries held units.dirs name in
-    record {
-      sources = found.sources ++ record { unit = name; name = job; file = file; drop_ins = files_among held units.most drop_ins } ∷ [];
-      skipped = found.skipped ++ skipped_among held units.most drop_ins;
-    }
+    with_source found (record { unit = name; name = job; file = file; drop_ins = files_among held units.most drop_ins })
+    (skipped_among held units.most drop_ins)
 
 -- ---- one timer
 

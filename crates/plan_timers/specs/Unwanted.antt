@@ -51,11 +51,15 @@ unwanted_at path = record { path = path; why = WantedBy (unit_in path) }
 abbrev pub is_named : List Entry → List ℕ → Bool
 is_named found name = list_any (λ other. bytes_eq other.name name) found
 
+-- an entry is such a link, and none of these links has its name
+abbrev pub is_further : (List ℕ → Node) → KnownUnits → List Entry → Entry → Bool
+is_further node units found entry = not (is_named found entry.name) && is_unwanted node units entry
+
 -- links, and those among some entries that are of further names
 abbrev pub with_entries : (List ℕ → Node) → KnownUnits → List Entry → List Entry → List Entry
 with_entries node units found [] = found
 with_entries node units found (entry ∷ more) =
-    with_entries node units (if not (is_named found entry.name) && is_unwanted node units entry then found ++ entry ∷ [] else found) more
+    with_entries node units (if is_further node units found entry then found ++ entry ∷ [] else found) more
 
 -- links, and those in a directory whose unit isn't reached
 abbrev pub with_link : Held → KnownUnits → List Entry → LinkDir → List Entry

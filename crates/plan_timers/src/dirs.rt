@@ -145,7 +145,7 @@ fn skipped_in_dirs<T: Tree>(
     let mut skipped = Vec::new(alloc);
     for dir in dirs {
         let names = names_at(alloc, tree, dir.real.as_str())?;
-        let mut more = skipped_drop_ins(alloc, tree, read, dir, names)?;
+        let mut more = skipped_drop_ins(alloc, tree, read, dir, names.as_slice())?;
         skipped.append(&mut more)?;
     }
     Ok(skipped)
@@ -157,10 +157,10 @@ fn skipped_drop_ins<T: Tree>(
     tree: &T,
     read: &[Name],
     dir: &UnitDir,
-    names: Vec<Name>,
+    names: &[Name],
 ) -> Result<Vec<Skipped>, AllocError>
     ensures { T.is_known ≡ true → IfOk result (λ skipped.
-        skipped.items ≡ skipped_drop_ins (T.held tree.now) read.now dir.now names.items) }
+        skipped.items ≡ skipped_drop_ins (T.held tree.now) read.now dir.now names.now) }
 {
     let mut skipped = Vec::new(alloc);
     for name in names {

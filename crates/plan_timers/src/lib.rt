@@ -3,32 +3,25 @@
 //! Read `timers` first, which goes over the timers one after the other, then `timer` for one of them. `order` says in which
 //! order they come, `names` which name its job has, `links` and `wish` what enables it, and `files` which of its files
 //! can be read, with their bytes. `dirs` and `read_dirs` say what is skipped of directories, and `counted` which of
-//! their entries count. `unwanted` finds the timers that only units want that the boot doesn't start, `started` and `planned` the
-//! unit that a timer starts, and `accuracy` the accuracy of timers that set none. `reports` has the reasons why something is
-//! skipped or isn't planned, on a whole machine.
+//! their entries count. `unwanted` finds the timers that only units want that the boot doesn't start. `reports` has the reasons
+//! why something is skipped or isn't planned, on a whole machine.
 #![tactic(auto)]
 
-mod accuracy;
 mod counted;
 mod dirs;
 mod files;
 mod links;
 mod names;
 mod order;
-mod planned;
 mod read_dirs;
 mod reports;
 mod source;
-mod started;
-mod texts;
 mod timer;
 mod timers;
 mod units;
 mod unwanted;
 mod wish;
 
-pub use accuracy::default_accuracy;
-pub use planned::{PlannedTimers, planned_timers};
 pub use reports::{NotPlanned, Skipped, Unplanned, Why, copy_of};
 pub use source::TimerSource;
 pub use timers::{TimersFound, machine_timers};

@@ -1,7 +1,7 @@
 //! The directories of links, and the links that enable a timer (systemd.unit(5)).
 
-ghost use Rattle.std.specs.Prelude.{◌≡◌, true, IfOk};
-ghost use Rattle.plan_timers.specs.Links.{first_link, link_at, link_dir, link_dirs, link_dirs_among, link_in, names_links};
+ghost use Rattle.std.specs.Prelude.{◌≡◌, true, IfOk, Some};
+ghost use Rattle.plan_timers.specs.Links.{first_link, link_at, link_dir, link_dir_by, link_dirs, link_dirs_among, link_in, names_links};
 
 use plan_tree::{Name, Place, Tree};
 use plan_units::{UnitDir, is_counted, names_at, read_dir, stem, template_of, wanted_name};
@@ -33,7 +33,7 @@ pub fn link_dirs<T: Tree>(
     let mut found = Vec::new(alloc);
     for dir in dirs {
         let names = names_at(alloc, tree, dir.real.as_str())?;
-        let mut more = link_dirs_among(alloc, tree, dir, names)?;
+        let mut more = link_dirs_among(alloc, tree, dir, names.as_slice())?;
         found.append(&mut more)?;
     }
     Ok(found)
@@ -44,10 +44,10 @@ fn link_dirs_among<T: Tree>(
     alloc: Global,
     tree: &T,
     dir: &UnitDir,
-    names: Vec<Name>,
+    names: &[Name],
 ) -> Result<Vec<LinkDir>, AllocError>
     ensures { T.is_known ≡ true → IfOk result (λ found.
-        found.items ≡ link_dirs_among (T.held tree.now).node dir.now names.items) }
+        found.items ≡ link_dirs_among (T.held tree.now).node dir.now names.now) }
 {
     let mut found = Vec::new(alloc);
     for name in names {
@@ -74,11 +74,16 @@ fn link_dir<T: Tree>(
     let named = dir.child(alloc, name)?;
     match read_dir(alloc, tree, &named)? {
         None => Ok(None),
-        Some(dir) => Ok(Some(LinkDir {
-            unit: Name::at(alloc, stem(name))?,
-            dir,
-        })),
+        Some(dir) => Ok(Some(link_dir_of(alloc, name, dir)?)),
     }
+}
+
+// Returns the directory of links that has this name.
+fn link_dir_of(alloc: Global, name: &str, dir: UnitDir) -> Result<LinkDir, AllocError>
+    ensures { IfOk result (λ links. Some links ≡ link_dir_by name.now (Some dir)) }
+{
+    let unit = Name::at(alloc, stem(name))?;
+    Ok(LinkDir { unit, dir })
 }
 
 // Returns whether a name is `NAME.wants` or `NAME.requires`.

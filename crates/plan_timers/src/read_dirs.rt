@@ -2,7 +2,7 @@
 
 ghost use Rattle.std.specs.Prelude.{◌≡◌, true, [], IfOk};
 ghost use Rattle.std.specs.List.{cons_option};
-ghost use Rattle.plan_timers.specs.ReadDirs.{entry_fault, fault_by, is_reader, read_names, skipped_entries, skipped_links, skipped_of_link, skipped_of_links};
+ghost use Rattle.plan_timers.specs.ReadDirs.{entry_fault, fault_by, is_reader, is_reader_by, read_names, skipped_entries, skipped_links, skipped_of_link, skipped_of_links};
 
 use crate::counted::counted_in;
 use crate::dirs::skipped_dir;
@@ -10,7 +10,7 @@ use crate::links::LinkDir;
 use crate::reports::{Skipped, Why, copy_of};
 use crate::wish::is_in;
 use plan_tree::{Name, Node, Tree};
-use plan_units::{Entry, UnitDir, is_mask, is_timer, is_valid_name, names_of_dirs, unit_of};
+use plan_units::{Entry, Unit, UnitDir, is_mask, is_timer, is_valid_name, names_of_dirs, unit_of};
 use std::alloc::{AllocError, Global};
 
 /// Returns what is skipped of the directories of links that are read: those of reached units that have a file and aren't
@@ -81,7 +81,15 @@ fn is_reader<T: Tree>(
 ) -> Result<bool, AllocError>
     ensures { T.is_known ≡ true → IfOk result (λ is. is ≡ is_reader (T.held tree.now).node dirs.now name.now) }
 {
-    match unit_of(alloc, tree, dirs, name)? {
+    let unit = unit_of(alloc, tree, dirs, name)?;
+    is_reader_by(alloc, tree, &unit)
+}
+
+// Returns whether a unit reads its directories of links: it has a file and isn't masked.
+fn is_reader_by<T: Tree>(alloc: Global, tree: &T, unit: &Option<Unit>) -> Result<bool, AllocError>
+    ensures { T.is_known ≡ true → IfOk result (λ is. is ≡ is_reader_by (T.held tree.now).node unit.now) }
+{
+    match unit {
         None => Ok(false),
         Some(unit) => Ok(!is_mask(alloc, tree, unit.file.real.as_str())?),
     }
@@ -103,7 +111,7 @@ fn skipped_of_link<T: Tree>(
     }
     let mut skipped = list_of(alloc, skipped_dir(alloc, tree, &link.dir)?)?;
     let entries = counted_in(alloc, tree, dirs, &link.dir)?;
-    let mut more = skipped_entries(alloc, tree, entries)?;
+    let mut more = skipped_entries(alloc, tree, entries.as_slice())?;
     skipped.append(&mut more)?;
     Ok(skipped)
 }
@@ -123,14 +131,14 @@ fn list_of(alloc: Global, found: Option<Skipped>) -> Result<Vec<Skipped>, AllocE
 fn skipped_entries<T: Tree>(
     alloc: Global,
     tree: &T,
-    entries: Vec<Entry>,
+    entries: &[Entry],
 ) -> Result<Vec<Skipped>, AllocError>
     ensures { T.is_known ≡ true → IfOk result (λ skipped.
-        skipped.items ≡ skipped_entries (T.held tree.now).node entries.items) }
+        skipped.items ≡ skipped_entries (T.held tree.now).node entries.now) }
 {
     let mut skipped = Vec::new(alloc);
     for entry in entries {
-        if let Some(why) = entry_fault(alloc, tree, &entry)? {
+        if let Some(why) = entry_fault(alloc, tree, entry)? {
             let path = copy_of(alloc, entry.path.as_str())?;
             skipped.push(Skipped { path, why })?;
         }

@@ -1,7 +1,7 @@
 //! A timer that is a source.
 
-ghost use Rattle.std.specs.Prelude.{◌≡◌, IfOk};
-ghost use Rattle.plan_timers.specs.Source.{parts_of_timer};
+ghost use Rattle.std.specs.Prelude.{◌≡◌, ◌∷◌, IfOk};
+ghost use Rattle.plan_timers.specs.Source.{parts_of_timer, parts_of_unit};
 
 use crate::order::has_at;
 use crate::reports::copy_of;
@@ -50,16 +50,29 @@ impl TimerSource {
         let TimerSource {
             unit,
             file,
-            mut drop_ins,
+            drop_ins,
             ..
         } = self;
         if drop_ins.is_empty() && !has_at(unit.as_str()) {
             return Ok(Parts::One(file));
         }
-        let mut files = Vec::new(alloc);
-        files.push(file)?;
-        files.append(&mut drop_ins)?;
-        let unit = copy_of(alloc, unit.as_str())?;
-        Ok(Parts::OfUnit(UnitParts::new(alloc, unit, files)?))
+        parts_of_unit(alloc, unit.as_str(), file, drop_ins)
     }
+}
+
+// Returns the parts of a unit with this name, its file and its drop-ins.
+fn parts_of_unit(
+    alloc: Global,
+    unit: &str,
+    file: Part,
+    drop_ins: Vec<Part>,
+) -> Result<Parts, AllocError>
+    ensures { IfOk result (λ parts. parts ≡ parts_of_unit unit.now (file ∷ drop_ins.items)) }
+{
+    let mut drop_ins = drop_ins;
+    let mut files = Vec::new(alloc);
+    files.push(file)?;
+    files.append(&mut drop_ins)?;
+    let unit = copy_of(alloc, unit)?;
+    Ok(Parts::OfUnit(UnitParts::new(alloc, unit, files)?))
 }

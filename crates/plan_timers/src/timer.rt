@@ -1,7 +1,8 @@
 //! One timer: its files, or why it is no source.
 
 ghost use Rattle.std.specs.Prelude.{◌≡◌, true, IfOk};
-ghost use Rattle.plan_timers.specs.Timers.{found_view, is_alias, is_taken, timer_file, with_file, with_job, with_skipped, with_timer, with_wish};
+ghost use Rattle.plan_timers.specs.Names.{job_of};
+ghost use Rattle.plan_timers.specs.Timers.{found_view, is_alias, is_taken, timer_file, with_file, with_job, with_skipped, with_source, with_timer, with_wish};
 ghost use Rattle.plan_timers.specs.Wishes.{units_view};
 
 use crate::files::{FoundFiles, found_file, found_files};
@@ -45,8 +46,24 @@ pub fn with_timer<T: Tree>(
     if is_alias(&name, &unit) {
         return Ok(found);
     }
+    with_own_name(alloc, tree, units, found, name, &unit)
+}
+
+// Returns what was found so far, and one more timer, whose name isn't an alias.
+fn with_own_name<T: Tree>(
+    alloc: Global,
+    tree: &T,
+    units: &Units<'_>,
+    found: TimersFound,
+    name: Name,
+    unit: &Option<Unit>,
+) -> Result<TimersFound, AllocError>
+    ensures { T.is_known ≡ true → IfOk result (λ after. found_view after
+        ≡ with_job (T.held tree.now) (units_view units.now) (found_view found) name (job_of name)
+        (timer_file (T.held tree.now) units.now.most name unit.now)) }
+{
     let job = job_name(alloc, name.as_str())?;
-    let file = timer_file(alloc, tree, units.most, name.as_str(), &unit)?;
+    let file = timer_file(alloc, tree, units.most, name.as_str(), unit)?;
     with_job(alloc, tree, units, found, name, job, file)
 }
 
@@ -137,20 +154,30 @@ fn with_file<T: Tree>(
     let entries = drop_in_entries(alloc, tree, units.dirs, unit.as_str())?;
     let FoundFiles {
         files: drop_ins,
-        skipped: mut more,
+        skipped,
     } = found_files(alloc, tree, units.most, entries.as_slice())?;
-    let TimersFound {
-        mut sources,
-        mut skipped,
-    } = found;
-    sources.push(TimerSource {
+    let source = TimerSource {
         unit,
         name,
         file,
         drop_ins,
-    })?;
-    skipped.append(&mut more)?;
-    Ok(TimersFound { sources, skipped })
+    };
+    with_source(found, source, skipped)
+}
+
+// Returns what was found, one more source, and what else is skipped.
+fn with_source(
+    found: TimersFound,
+    source: TimerSource,
+    more: Vec<Skipped>,
+) -> Result<TimersFound, AllocError>
+    ensures { IfOk result (λ after. found_view after ≡ with_source (found_view found) source more.items) }
+{
+    let mut found = found;
+    let mut more = more;
+    found.sources.push(source)?;
+    found.skipped.append(&mut more)?;
+    Ok(found)
 }
 
 // Returns what was found, and what enables a timer as skipped.
@@ -174,10 +201,7 @@ fn with_wish<T: Tree>(
 fn with_skipped(found: TimersFound, more: Skipped) -> Result<TimersFound, AllocError>
     ensures { IfOk result (λ after. found_view after ≡ with_skipped (found_view found) more) }
 {
-    let TimersFound {
-        sources,
-        mut skipped,
-    } = found;
-    skipped.push(more)?;
-    Ok(TimersFound { sources, skipped })
+    let mut found = found;
+    found.skipped.push(more)?;
+    Ok(found)
 }

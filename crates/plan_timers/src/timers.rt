@@ -4,7 +4,7 @@ ghost use Rattle.std.specs.Prelude.{◌≡◌, true, IfOk, IfNone, IfSome, filte
 ghost use Rattle.plan_units.specs.Reach.{AreTooMany};
 ghost use Rattle.plan_units.specs.Timers.{first_unit, is_timer};
 ghost use Rattle.plan_units.specs.Wants.{wants_of};
-ghost use Rattle.plan_timers.specs.Timers.{AreMachineTimers, file_timers, found_view, has_file, skipped_of_dirs, timer_names, timers_among, with_more, with_timers};
+ghost use Rattle.plan_timers.specs.Timers.{AreMachineTimers, file_timers, found_view, has_file, skipped_of_dirs, timer_names, timers_among, timers_of_units, with_drop_in_dirs, with_more, with_timers};
 ghost use Rattle.plan_timers.specs.Unwanted.{unwanted_timers};
 ghost use Rattle.plan_timers.specs.Wishes.{units_view};
 
@@ -70,8 +70,6 @@ fn timers_among<T: Tree>(
         ≡ timers_among (T.held tree.now) dirs.now all most reached.items) }
 {
     let reached = in_order(reached);
-    let names = timer_names(alloc, tree, dirs, reached.as_slice(), all)?;
-    let names = in_timer_order(alloc, names)?;
     let links = link_dirs(alloc, tree, dirs)?;
     let units = Units {
         dirs,
@@ -79,17 +77,45 @@ fn timers_among<T: Tree>(
         reached: reached.as_slice(),
         most,
     };
+    timers_of_units(alloc, tree, &units, all)
+}
+
+// Returns the timers of the machine that has these units, and what is skipped.
+fn timers_of_units<T: Tree>(
+    alloc: Global,
+    tree: &T,
+    units: &Units<'_>,
+    all: bool,
+) -> Result<TimersFound, AllocError>
+    ensures { T.is_known ≡ true → IfOk result (λ found. found_view found
+        ≡ timers_of_units (T.held tree.now) (units_view units.now) all) }
+{
+    let names = timer_names(alloc, tree, units.dirs, units.reached, all)?;
+    let names = in_timer_order(alloc, names)?;
     let found = TimersFound {
         sources: Vec::new(alloc),
-        skipped: skipped_of_dirs(alloc, tree, &units)?,
+        skipped: skipped_of_dirs(alloc, tree, units)?,
     };
-    let found = with_timers(alloc, tree, &units, found, names)?;
-    let more = skipped_drop_in_dirs(alloc, tree, dirs, found.sources.as_slice())?;
-    let found = with_more(found, more)?;
+    let found = with_timers(alloc, tree, units, found, names)?;
+    let found = with_drop_in_dirs(alloc, tree, units, found)?;
     if all {
         return Ok(found);
     }
-    let more = unwanted_timers(alloc, tree, &units)?;
+    let more = unwanted_timers(alloc, tree, units)?;
+    with_more(found, more)
+}
+
+// Returns what was found, and what is skipped of the directories of the drop-ins of its timers.
+fn with_drop_in_dirs<T: Tree>(
+    alloc: Global,
+    tree: &T,
+    units: &Units<'_>,
+    found: TimersFound,
+) -> Result<TimersFound, AllocError>
+    ensures { T.is_known ≡ true → IfOk result (λ after. found_view after
+        ≡ with_drop_in_dirs (T.held tree.now) (units_view units.now) (found_view found)) }
+{
+    let more = skipped_drop_in_dirs(alloc, tree, units.dirs, found.sources.as_slice())?;
     with_more(found, more)
 }
 
@@ -113,12 +139,9 @@ fn with_more(found: TimersFound, more: Vec<Skipped>) -> Result<TimersFound, Allo
     ensures { IfOk result (λ after. found_view after ≡ with_more (found_view found) more.items) }
 {
     let mut more = more;
-    let TimersFound {
-        sources,
-        mut skipped,
-    } = found;
-    skipped.append(&mut more)?;
-    Ok(TimersFound { sources, skipped })
+    let mut found = found;
+    found.skipped.append(&mut more)?;
+    Ok(found)
 }
 
 // Returns what was found, and what is found of some timers, first to last.
@@ -182,9 +205,9 @@ fn file_timers<T: Tree>(alloc: Global, tree: &T, dirs: &[UnitDir]) -> Result<Vec
 {
     let found = entries_among(alloc, tree, dirs)?;
     let mut names = Vec::new(alloc);
-    for entry in found {
+    for entry in found.as_slice() {
         if has_file(alloc, tree, dirs, &entry.name)? {
-            names.push(entry.name)?;
+            names.push(Name::at(alloc, entry.name.as_str())?)?;
         }
     }
     Ok(names)

@@ -3,8 +3,9 @@
 ghost use Rattle.std.specs.Prelude.{◌≡◌, ◌==◌, true, [], IfOk, map};
 ghost use Rattle.std.specs.List.{list_any};
 ghost use Rattle.std.specs.Str.{byte, bytes_eq};
-ghost use Rattle.plan_timers.specs.Unwanted.{has_own_file, is_named, is_unreached, is_unwanted, names_unit, unit_in, unwanted_at, unwanted_timers, with_entries, with_link, with_links};
+ghost use Rattle.plan_timers.specs.Unwanted.{has_own_file, is_further, is_named, is_unreached, is_unwanted, names_unit, unit_in, unwanted_at, unwanted_timers, with_entries, with_link, with_links};
 ghost use Rattle.plan_timers.specs.Wishes.{units_view};
+ghost use Rattle.plan_units.specs.Unit.{unit_of};
 
 use crate::counted::counted_in;
 use crate::links::LinkDir;
@@ -13,7 +14,7 @@ use crate::units::Units;
 use crate::wish::is_in;
 use plan_texts::Text;
 use plan_tree::{Name, Place, Tree};
-use plan_units::{Entry, Unit, is_counted, is_timer, last_name, stem, unit_of};
+use plan_units::{Entry, Unit, UnitDir, is_counted, is_timer, last_name, stem, unit_of};
 use std::alloc::{AllocError, Global};
 
 /// Returns the timers that have a file and aren't reached, but that are linked in a directory of a unit that isn't reached
@@ -35,7 +36,7 @@ pub fn unwanted_timers<T: Tree>(
 {
     let entries = with_links(alloc, tree, units)?;
     let mut skipped = Vec::new(alloc);
-    for entry in entries {
+    for entry in entries.as_slice() {
         skipped.push(unwanted_at(alloc, entry.path.as_str())?)?;
     }
     Ok(skipped)
@@ -98,11 +99,25 @@ fn with_entries<T: Tree>(
 {
     let mut found = found;
     for entry in entries {
-        if !is_named(found.as_slice(), &entry.name) && is_unwanted(alloc, tree, units, &entry)? {
+        if is_further(alloc, tree, units, found.as_slice(), &entry)? {
             found.push(entry)?;
         }
     }
     Ok(found)
+}
+
+// Returns whether an entry is a link to a timer that has a file and isn't reached, and none of these links has its name.
+fn is_further<T: Tree>(
+    alloc: Global,
+    tree: &T,
+    units: &Units<'_>,
+    found: &[Entry],
+    entry: &Entry,
+) -> Result<bool, AllocError>
+    ensures { T.is_known ≡ true → IfOk result (λ is.
+        is ≡ is_further (T.held tree.now).node (units_view units.now) found.now entry.now) }
+{
+    Ok(!is_named(found, &entry.name) && is_unwanted(alloc, tree, units, entry)?)
 }
 
 // Returns whether one of some links has this name.
@@ -128,8 +143,21 @@ fn is_unwanted<T: Tree>(
     if !is_counted(alloc, tree, entry.real.as_str())? {
         return Ok(false);
     }
-    let unit = unit_of(alloc, tree, units.dirs, entry.name.as_str())?;
-    Ok(has_own_file(&entry.name, &unit))
+    has_own_unit(alloc, tree, units.dirs, &entry.name)
+}
+
+// Returns whether a name isn't an alias, and has a file.
+fn has_own_unit<T: Tree>(
+    alloc: Global,
+    tree: &T,
+    dirs: &[UnitDir],
+    name: &Name,
+) -> Result<bool, AllocError>
+    ensures { T.is_known ≡ true → IfOk result (λ has.
+        has ≡ has_own_file name.now (unit_of (T.held tree.now).node dirs.now name.now)) }
+{
+    let unit = unit_of(alloc, tree, dirs, name.as_str())?;
+    Ok(has_own_file(name, &unit))
 }
 
 // Returns whether a name that isn't an alias has a unit.

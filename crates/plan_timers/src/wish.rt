@@ -50,7 +50,7 @@ fn first_setting<T: Tree>(
 {
     for other in reached {
         let unit = unit_of(alloc, tree, dirs, other.as_str())?;
-        if let Some(path) = path_of_setting(alloc, tree, dirs, unit, name)? {
+        if let Some(path) = path_of_setting(alloc, tree, dirs, &unit, name)? {
             return Ok(Some(path));
         }
     }
@@ -62,16 +62,16 @@ fn path_of_setting<T: Tree>(
     alloc: Global,
     tree: &T,
     dirs: &[UnitDir],
-    unit: Option<Unit>,
+    unit: &Option<Unit>,
     name: &str,
 ) -> Result<Option<Place>, AllocError>
     ensures { T.is_known ≡ true → IfOk result (λ path.
-        path ≡ path_of_setting (T.held tree.now) dirs.now unit name.now) }
+        path ≡ path_of_setting (T.held tree.now) dirs.now unit.now name.now) }
 {
     let Some(unit) = unit else {
         return Ok(None);
     };
-    if is_set(alloc, tree, dirs, &unit, name)? {
+    if is_set(alloc, tree, dirs, unit, name)? {
         Ok(Some(Place::at(alloc, unit.file.path.as_str())?))
     } else {
         Ok(None)

@@ -4,7 +4,7 @@ ghost use Rattle.std.specs.Prelude.{◌≡◌, ◌+◌, ◌-◌, ◌++◌, ◌�
 ghost use Rattle.std.specs.List.{list_any, prefix_len, suffix_len};
 ghost use Rattle.std.specs.Str.{byte};
 ghost use Rattle.plan_tree.specs.Place.{child, start};
-ghost use Rattle.plan_units.specs.UnitFile.{file_by, file_by_lead, file_of_name, file_of_unit, is_below, is_unit_path, last_name, lead, lead_from};
+ghost use Rattle.plan_units.specs.UnitFile.{file_at, file_by, file_by_lead, file_of_name, file_of_unit, is_below, is_unit_path, last_name, lead, lead_from};
 
 use crate::names::{can_be_alias, named_for, template_of};
 use crate::paths::{UnitDir, unit_paths};
@@ -86,11 +86,9 @@ fn file_in<T: Tree>(
             let to = lead(alloc, dir.path.as_str(), text.as_str())?;
             file_by_lead(alloc, dir, name, to.as_str())
         }
-        Node::File { .. } | Node::Null | Node::Other => Ok(Some(UnitFile {
-            path: dir.path.child(alloc, name)?,
-            real,
-            alias: None,
-        })),
+        Node::File { .. } | Node::Null | Node::Other => {
+            Ok(Some(file_at(alloc, dir, name, None)?))
+        }
     }
 }
 
@@ -103,23 +101,31 @@ fn file_by_lead(
 ) -> Result<Option<UnitFile>, AllocError>
     ensures { IfOk result (λ file. file ≡ file_by_lead dir.now name.now to.now) }
 {
-    let alias = if is_unit_path(alloc, to)? {
-        let last = last_name(to);
-        if !is_valid_name(last) || !can_be_alias(name, last) {
-            return Ok(None);
-        }
-        if named_for(alloc, name, last)?.as_str() == name {
-            return Ok(None);
-        }
-        Some(Name::at(alloc, last)?)
-    } else {
-        None
-    };
-    Ok(Some(UnitFile {
-        path: dir.path.child(alloc, name)?,
-        real: dir.real.child(alloc, name)?,
-        alias,
-    }))
+    if !is_unit_path(alloc, to)? {
+        return Ok(Some(file_at(alloc, dir, name, None)?));
+    }
+    let last = last_name(to);
+    if !is_valid_name(last) || !can_be_alias(name, last) {
+        return Ok(None);
+    }
+    if named_for(alloc, name, last)?.as_str() == name {
+        return Ok(None);
+    }
+    let alias = Name::at(alloc, last)?;
+    Ok(Some(file_at(alloc, dir, name, Some(alias))?))
+}
+
+// Returns the file of a name in a directory.
+fn file_at(
+    alloc: Global,
+    dir: &UnitDir,
+    name: &str,
+    alias: Option<Name>,
+) -> Result<UnitFile, AllocError>
+    ensures { IfOk result (λ file. file ≡ file_at dir.now name.now alias) }
+{
+    let UnitDir { path, real } = dir.child(alloc, name)?;
+    Ok(UnitFile { path, real, alias })
 }
 
 // Returns where the text of a link in a directory leads, by its names alone.
@@ -157,7 +163,14 @@ fn lead_on(alloc: Global, dir: Place, name: &str) -> Result<Place, AllocError>
 fn is_unit_path(alloc: Global, path: &str) -> Result<bool, AllocError>
     ensures { IfOk result (λ is. is ≡ is_unit_path path.now) }
 {
-    for dir in &unit_paths() {
+    is_below_any(alloc, path, &unit_paths())
+}
+
+// Returns whether a path is below one of some directories.
+fn is_below_any(alloc: Global, path: &str, dirs: &[&str]) -> Result<bool, AllocError>
+    ensures { IfOk result (λ is. is ≡ list_any (λ dir. is_below path.now dir) (map (λ dir. dir.now) dirs.now)) }
+{
+    for dir in dirs {
         if is_below(alloc, path, dir)? {
             return Ok(true);
         }

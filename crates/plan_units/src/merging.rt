@@ -4,7 +4,7 @@ ghost use Rattle.std.specs.Prelude.{◌≡◌, true, IfOk, OnOk, map};
 ghost use Rattle.std.specs.List.{list_any, prefix_len};
 ghost use Rattle.std.specs.Str.{bytes_eq};
 ghost use Rattle.plan_tree.specs.Order.{is_before};
-ghost use Rattle.plan_units.specs.Entries.{entries_among, names_at, places_in, places_of, with_entry, with_names};
+ghost use Rattle.plan_units.specs.Entries.{entries_among, names_at, places_in, places_of, read_dir, with_entry, with_names, with_read};
 
 use crate::paths::{UnitDir, read_dir};
 use plan_tree::{Name, Place, Tree, entries};
@@ -37,12 +37,26 @@ pub fn entries_among<T: Tree>(
 {
     let mut found = Vec::new(alloc);
     for dir in dirs {
-        if let Some(dir) = read_dir(alloc, tree, dir)? {
-            let names = names_at(alloc, tree, dir.real.as_str())?;
-            add_names(alloc, &mut found, &dir, names)?;
-        }
+        add_read(alloc, tree, &mut found, dir)?;
     }
     Ok(found)
+}
+
+// Adds the entries of a directory. One that is a link is read where it leads.
+fn add_read<T: Tree>(
+    alloc: Global,
+    tree: &T,
+    found: &mut Vec<Entry>,
+    dir: &UnitDir,
+) -> Result<(), AllocError>
+    ensures { T.is_known ≡ true → OnOk result (found.new.items
+        ≡ with_read (T.held tree.now) found.old.items (read_dir (T.held tree.now).node dir.now)) }
+{
+    if let Some(dir) = read_dir(alloc, tree, dir)? {
+        let names = names_at(alloc, tree, dir.real.as_str())?;
+        add_names(alloc, found, &dir, names)?;
+    }
+    Ok(())
 }
 
 /// Returns the names in a directory, in order; none if it can't be listed. There is no link in its path.

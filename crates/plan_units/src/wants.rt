@@ -158,7 +158,7 @@ fn linked_names<T: Tree>(
 {
     let places = unit_dirs(alloc, dirs, name, suffix)?;
     let found = entries_among(alloc, tree, places.as_slice())?;
-    counted_names(alloc, tree, unit, found)
+    counted_names(alloc, tree, unit, found.as_slice())
 }
 
 // Returns the names of the entries that count, as they are meant for a unit, but for invalid ones. The entries that count
@@ -167,10 +167,10 @@ fn counted_names<T: Tree>(
     alloc: Global,
     tree: &T,
     unit: &str,
-    found: Vec<Entry>,
+    found: &[Entry],
 ) -> Result<Vec<Name>, AllocError>
     ensures { T.is_known ≡ true → IfOk result (λ names.
-        names.items ≡ counted_names (T.held tree.now).node unit.now found.items) }
+        names.items ≡ counted_names (T.held tree.now).node unit.now found.now) }
 {
     let mut names = Vec::new(alloc);
     for entry in found {

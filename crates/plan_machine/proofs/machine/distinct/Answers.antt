@@ -20,6 +20,6 @@ loop-one-preserved c =
     let added = c.in_ok-add.ensures.added ∙ ap (with_name c.loop-one.told) text_too in
     let so_far = ap (λ left. once ++ new_after before left) (sym c.in-Some.ensures.steps.0) ∙ c.loop-one.invariant.1 in (
       (λ t. ap (list_any (bytes_eq t)) added ∙ said_more c.loop-one.told before one told t),
-      ap (λ kept. kept ++ new_after (before ++ one ∷ []) more) c.in_ok-once.ensures
+      ap (λ kept. kept ++ new_after (before ++ one ∷ []) more) c.in_ok-add_if_new.ensures
           ∙ new_more (not c.contains-is_new.result) once before more (distinct c.args.skipped.items) one new so_far,
     )

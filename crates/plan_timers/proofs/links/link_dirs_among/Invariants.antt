@@ -1,10 +1,9 @@
-use Rattle.std.proofs.Common.{◌≡◌, ◌++◌, true}
-use Rattle.std.specs.Vec.Iter.{into_iter_items}
+use Rattle.std.proofs.Common.{◌≡◌, ◌++◌, drop, true}
 use Rattle.plan_timers.specs.Links.{link_dirs_among}
 use Rattle.plan_timers.proofs.links.link_dirs_among.Given as goal
 
 abbrev pub invariant-loop-name : goal.invariant-loop-name
 invariant-loop-name g l =
     g.T.Tree.is_known ≡ true →
-    l.found.items ++ link_dirs_among (g.T.Tree.held l.tree).node l.dir (into_iter_items l.name-iterator)
-    ≡ link_dirs_among (g.T.Tree.held l.tree).node l.dir l.fn.names.items
+    l.found.items ++ link_dirs_among (g.T.Tree.held l.tree).node l.dir (drop l.name-index l.names)
+    ≡ link_dirs_among (g.T.Tree.held l.tree).node l.dir l.names

@@ -6,8 +6,8 @@ use Rattle.plan_units.specs.UnitFile.{file_by, file_by_lead, lead}
 use Rattle.plan_units.proofs.UnitLemmas.{linked_file}
 use Rattle.plan_units.proofs.file.file_in.Goals as goal
 
-pub returns-in_ok-to-in-Link : goal.returns-in_ok-to-in-Link
-returns-in_ok-to-in-Link g c = λ known.
+pub returns-in-Link : goal.returns-in-Link
+returns-in-Link g c = λ known.
     let node = (g.T.Tree.held c.args.tree.now).node in
     let dir = c.args.dir.now in
     let name = c.args.name.now in

@@ -1,0 +1,42 @@
+-- A text has whole lines if it is UTF-8. The front of a file's text suffices.
+use Rattle.std.proofs.Common.{◌≡◌, ℕ, ◌≤◌, Bool, true, false, inl, inr, List, [], length, take, Option, Some, None, refl, ap, sym, ◌∙◌, arith}
+use Rattle.std.proofs.lemmas.Bool.{cases_lt}
+use Rattle.std.proofs.lemmas.Bool.Decides.{nat_tests}
+use Rattle.std.proofs.lemmas.List.{length-take-le, take_all}
+use Rattle.std.proofs.lemmas.Str.{IsUtf8-from_is_utf8, is_utf8-from_IsUtf8}
+use Rattle.std.specs.Option.{option_map}
+use Rattle.std.specs.Str.{IsUtf8, is_utf8}
+use Rattle.plan_texts.specs.Lines.{is_too_large}
+use Rattle.plan_services.specs.Texts.{lines_of_found, lines_of_text}
+
+pub text_of_utf8 : (text : List ℕ) → IsUtf8 text → is_utf8 text ≡ true
+text_of_utf8 text utf8 = is_utf8-from_IsUtf8 text utf8
+
+no_utf8 : (b : Bool) (text : List ℕ) → is_utf8 text ≡ b → (IsUtf8 text → ⊥) → b ≡ false
+no_utf8 true text is other = absurd (other (IsUtf8-from_is_utf8 text is))
+no_utf8 false text is other = refl
+
+pub no_text_of_other : (text : List ℕ) → (IsUtf8 text → ⊥) → is_utf8 text ≡ false
+no_text_of_other text other = no_utf8 (is_utf8 text) text refl other
+
+-- a text that is too large has no lines
+none_of_large : (text : List ℕ) → is_too_large text ≡ true → lines_of_text text ≡ []
+none_of_large text large = rw large refl
+
+-- one byte more than the most suffices
+front_suffices : (text : List ℕ) → lines_of_text (take 1048577 text) ≡ lines_of_text text
+front_suffices text =
+    elim (cases_lt 1048577 (length text)) as (λ _. lines_of_text (take 1048577 text) ≡ lines_of_text text) [
+      | inl more ↦
+          let fits : 1048577 ≤ length text = omega arith in
+          let long : length (take 1048577 text) ≡ 1048577 = length-take-le 1048577 text fits in
+          let front : is_too_large (take 1048577 text) ≡ true = grind (arith, nat_tests) in
+          let whole : is_too_large text ≡ true = grind (arith, nat_tests) in
+          none_of_large (take 1048577 text) front ∙ sym (none_of_large text whole)
+      | inr all ↦ ap lines_of_text (take_all 1048577 text all)
+    ]
+
+pub front_of_found :
+    (found bytes : Option (List ℕ)) → found ≡ option_map (take 1048577) bytes → lines_of_found found ≡ lines_of_found bytes
+front_of_found found None is = ap lines_of_found is
+front_of_found found (Some text) is = ap lines_of_found is ∙ front_suffices text

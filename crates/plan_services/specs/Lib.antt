@@ -1,0 +1,4 @@
+pub mod Texts
+pub mod Started
+pub mod Planned
+pub mod Accuracy

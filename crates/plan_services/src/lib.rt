@@ -1,0 +1,13 @@
+//! What a timer of a machine starts, and what systemd's own settings say of timers (systemd.timer(5), systemd-system.conf(5)).
+//!
+//! `started` finds the unit that a timer starts. `planned` goes over the timers, and tells those whose unit can start from
+//! the others. `accuracy` is the accuracy of timers that set none, and `texts` has the lines of files for these.
+#![tactic(auto)]
+
+mod accuracy;
+mod planned;
+mod started;
+mod texts;
+
+pub use accuracy::default_accuracy;
+pub use planned::{PlannedTimers, planned_timers};
