@@ -63,8 +63,8 @@ _agenda() {
             mapfile -t COMPREPLY < <(compgen -W '1 2 3 4 5 6 7 8' -- "$cur")
             return
             ;;
-        *:--after | *:--count | *:--since | *:--upto | *:--until | *:--least | *:--room | *:--limit)
-            # a time or a number: nothing to complete
+        *:--after | *:--count | *:--since | *:--upto | *:--until | *:--least | *:--room | *:--limit | *:--except)
+            # a time, a number or the name of a job: nothing to complete
             return
             ;;
     esac
@@ -103,18 +103,18 @@ _agenda() {
             [[ ${COMPREPLY-} == *= ]] && compopt -o nospace
             ;;
         machine:-* | machine\ upcoming:*)
-            mapfile -t COMPREPLY < <(compgen -W "--after= --delays --strict $form $machine" -- "$cur")
+            mapfile -t COMPREPLY < <(compgen -W "--after= --except= --delays --strict $form $machine" -- "$cur")
             [[ ${COMPREPLY-} == *= ]] && compopt -o nospace
             ;;
         machine:*)
             mapfile -t COMPREPLY < <(compgen -W 'upcoming plan quiet check sources next' -- "$cur")
             ;;
         machine\ plan:*)
-            mapfile -t COMPREPLY < <(compgen -W "$span --delays --strict $form $machine" -- "$cur")
+            mapfile -t COMPREPLY < <(compgen -W "$span --except= --delays --strict $form $machine" -- "$cur")
             [[ ${COMPREPLY-} == *= ]] && compopt -o nospace
             ;;
         machine\ quiet:*)
-            mapfile -t COMPREPLY < <(compgen -W "$span --least= --nominal --strict $form $machine" -- "$cur")
+            mapfile -t COMPREPLY < <(compgen -W "$span --least= --except= --nominal --strict $form $machine" -- "$cur")
             [[ ${COMPREPLY-} == *= ]] && compopt -o nospace
             ;;
         machine\ sources:*)
@@ -126,7 +126,7 @@ _agenda() {
             [[ ${COMPREPLY-} == *= ]] && compopt -o nospace
             ;;
         machine\ next:*)
-            mapfile -t COMPREPLY < <(compgen -W '--after= --count= --zone= --utc --json --help' -- "$cur")
+            mapfile -t COMPREPLY < <(compgen -W "--after= --count= --zone= --utc --json --help $form" -- "$cur")
             [[ ${COMPREPLY-} == *= ]] && compopt -o nospace
             ;;
         plan:* | upcoming:* | quiet:* | check:*)

@@ -88,9 +88,11 @@ set -l zoned '__fish_seen_subcommand_from machine; and not __fish_seen_subcomman
 complete -c agenda -n $zoned -l zone -r -F -d 'The time zone of the rules, if not that of the machine' \
     -a '(__fish_agenda_zones)'
 complete -c agenda -n $zoned -l utc -d 'Read the rules in UTC'
+complete -c agenda -n '__fish_seen_subcommand_from machine; and not __fish_seen_subcommand_from check sources next' -l except -x \
+    -d 'Ignore the job with this name, as it is printed'
 complete -c agenda -n '__fish_seen_subcommand_from machine; and not __fish_seen_subcommand_from check sources next' -l strict \
     -d 'Let an error in a file stop the answer'
-set -l formed '__fish_seen_subcommand_from machine; and not __fish_seen_subcommand_from check sources next'
+set -l formed '__fish_seen_subcommand_from machine; and not __fish_seen_subcommand_from check sources'
 complete -c agenda -n $formed -l table -d 'Print a table, also if this isn\'t a terminal'
 complete -c agenda -n $formed -l text -d 'Print text, also on a terminal'
 complete -c agenda -n '__fish_seen_subcommand_from machine; and __fish_seen_subcommand_from quiet' -l nominal \

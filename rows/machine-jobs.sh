@@ -1,10 +1,20 @@
 # shellcheck shell=bash disable=SC2154,SC2034
 # Rows of `agenda machine upcoming`, `plan` and `quiet`: the starts of a machine's jobs, the times and the zone in which they are
-# shown, the errors that are skipped, and the question that is answered if none is given. And rows of `agenda machine next`. Expected lines are worked out by
-# hand: CET is the zone of Berlin, where clocks are put forward on 31 March 2024 at 01:00 UTC; cron's @daily starts at midnight.
+# shown, jobs that are left out, the errors that are skipped, and the question that is answered if none is given. And rows of
+# `agenda machine next`. Expected lines are worked out by hand: CET is the zone of Berlin, where clocks are put forward on 31 March 2024 at 01:00 UTC; cron's @daily starts at midnight.
 
 # shellcheck source=/dev/null
 . "$top/rows/lib/program.sh"
+
+# ---- jobs that are left out
+
+program_answers <<'ROWS'
+S/u=@daily\x20a\n@daily\x20b\n@daily\x20c\n|upcoming --utc --after 2024-03-31T00:00:00Z --except u:2|2024-04-01T00:00:00Z>u:1>a;2024-04-01T00:00:00Z>u:3>c||
+S/u=@daily\x20a\n@daily\x20b\n|--utc --after 2024-03-31T00:00:00Z --except=u:1 --except=u:2|||
+S/u=@daily\x20a\n@daily\x20b\n|plan --utc --since 2024-03-31T00:00:00Z --until 2024-04-01T00:00:00Z --except u:2|agenda 2>2024-03-31T00:00:00Z>2024-04-01T00:00:00Z>1;2024-03-31T00:00:00Z>u:1>a||
+S/u=@daily\x20a\n@daily\x20b\n|plan --json --utc --since 2024-03-31T00:00:00Z --until 2024-04-01T00:00:00Z --except u:1|{"start":"2024-03-31T00:00:00Z","job":"u:2","path":"root/var/spool/cron/crontabs/u","line":2,"run":"b"}||
+*t.timer U/t.timer=[Timer]\nOnCalendar=daily\n S/t=@daily\x20a\n|upcoming --utc --after 2024-03-31T00:00:00Z --except t.timer|2024-04-01T00:00:00Z>t:1>a||
+ROWS
 
 # ---- the forms of an answer
 
@@ -13,11 +23,10 @@ x/|plan --since 2024-03-31T00:00:00Z --until 2024-04-01T00:00:00Z|agenda 2 UTC>2
 x/|plan --utc --since 2024-03-31T00:00:00Z --until 2024-04-01T00:00:00Z|agenda 2>2024-03-31T00:00:00Z>2024-04-01T00:00:00Z>0||
 x/|upcoming --after 2024-03-31T00:00:00Z|||
 x/|quiet --since 2024-03-31T00:00:00Z --until 2024-03-31T00:30:00Z|2024-03-31T00:00:00+00:00>2024-03-31T00:30:00+00:00>1800||
-x/|quiet --since 2024-03-31T00:00:00Z --until 2024-03-31T00:29:59Z|||
 S/u=@daily\x20a\n|upcoming --after 2024-03-31T00:00:00Z|2024-04-01T00:00:00+00:00>u:1>a||
 S/u=@daily\x20a\n|upcoming --utc --after 2024-03-31T00:00:00Z|2024-04-01T00:00:00Z>u:1>a||
-S/u=@daily\x20a\n|upcoming --json --utc --after 2024-03-31T00:00:00Z|{"start":"2024-04-01T00:00:00Z","job":"u:1","run":"a"}||
-S/u=@daily\x20a\n|upcoming --json --after 2024-03-31T00:00:00Z|{"start":"2024-04-01T00:00:00Z","local":"2024-04-01T00:00:00+00:00","job":"u:1","run":"a"}||
+S/u=@daily\x20a\n|upcoming --json --utc --after 2024-03-31T00:00:00Z|{"start":"2024-04-01T00:00:00Z","job":"u:1","path":"root/var/spool/cron/crontabs/u","line":1,"run":"a"}||
+S/u=@daily\x20a\n|upcoming --json --after 2024-03-31T00:00:00Z|{"start":"2024-04-01T00:00:00Z","local":"2024-04-01T00:00:00+00:00","job":"u:1","path":"root/var/spool/cron/crontabs/u","line":1,"run":"a"}||
 S/u=@daily\x20a\n|quiet --utc --least 43200 --since 2024-03-31T06:00:00Z --until 2024-04-01T12:00:00Z|2024-03-31T06:00:00Z>2024-04-01T00:00:00Z>64800;2024-04-01T00:00:00Z>2024-04-01T12:00:00Z>43200||
 ROWS
 
@@ -124,8 +133,8 @@ ROWS
 program_answers <<'ROWS'
 S/u=x\n@daily\x20a\ny\n|upcoming --strict --utc --after 2024-03-31T00:00:00Z||root/var/spool/cron/crontabs/u:1: error: expected NAME=VALUE, or five fields and a command [BadSetting]|
 S/u=x\n@daily\x20a\ny\n|--strict --after 2024-03-31T00:00:00Z||root/var/spool/cron/crontabs/u:1: error: expected NAME=VALUE, or five fields and a command [BadSetting]|
-S/u=x\n@daily\x20a\ny\n|plan --strict --limit 0 --since 2024-03-31T00:00:00Z --until 2024-04-01T00:00:00Z||root/var/spool/cron/crontabs/u:1: error: expected NAME=VALUE, or five fields and a command [BadSetting]|
-S/u=x\n@daily\x20a\ny\n|quiet --strict --limit 0 --since 2024-03-31T00:00:00Z --until 2024-04-01T00:00:00Z||root/var/spool/cron/crontabs/u:1: error: expected NAME=VALUE, or five fields and a command [BadSetting]|
+S/u=x\n@daily\x20a\ny\n|plan --strict --limit 1 --since 2024-03-31T00:00:00Z --until 2024-04-03T00:00:00Z||root/var/spool/cron/crontabs/u:1: error: expected NAME=VALUE, or five fields and a command [BadSetting]|
+S/u=x\n@daily\x20a\ny\n|quiet --strict --limit 1 --since 2024-03-31T00:00:00Z --until 2024-04-03T00:00:00Z||root/var/spool/cron/crontabs/u:1: error: expected NAME=VALUE, or five fields and a command [BadSetting]|
 *a.timer U/a.timer=DAILY E/a.timer.d/x.conf=\n[Timer]\nOnCalendar=24:00\n S/u=@daily\x20a\n|upcoming --strict --after 2024-03-31T00:00:00Z||root/etc/systemd/system/a.timer.d/x.conf:3: error: hour in '24:00': out of range 0-23 [OutOfRange]|
 C/a/ S/u=x\n|upcoming --strict --after 2024-03-31T00:00:00Z||root/var/spool/cron/crontabs/u:1: error: expected NAME=VALUE, or five fields and a command [BadSetting]|C/a not readable
 C/a/ S/u=@daily\x20a\n|upcoming --strict --utc --after 2024-03-31T00:00:00Z|2024-04-01T00:00:00Z>u:1>a||C/a not readable
@@ -155,8 +164,27 @@ jobs_errors() {
 jobs_errors <<'ROWS'
 plan --limit 59 --since 2024-01-01T00:00:00Z --until 2024-01-01T01:00:00Z|agenda: more than 59 starts: give a shorter span, or --limit N [TooMany]
 quiet --limit 1 --since 2024-01-01T00:00:00Z --until 2024-01-01T01:00:00Z|agenda: more than 1 starts: give a shorter span, or --limit N [TooMany]
-plan --limit 0 --since 2024-01-01T00:00:00Z --until 2024-01-01T01:00:00Z|agenda: plan: BadLimit
-plan --planners 9 --since 2024-01-01T00:00:00Z --until 2024-01-01T01:00:00Z|agenda: plan: BadSize
+ROWS
+
+# A number that is out of its range: after the times, the span and the length, and before anything is reported. The planners come first,
+# then the room, and then the limit.
+jobs_errors <<'ROWS'
+plan --limit 0|agenda: --limit: not from 1 to 1000000: '0' [BadLimit]
+plan --limit 1000001|agenda: --limit: not from 1 to 1000000: '1000001' [BadLimit]
+quiet --limit 4294967295|agenda: --limit: not from 1 to 1000000: '4294967295' [BadLimit]
+plan --planners 0|agenda: --planners: not from 1 to 8: '0' [BadSize]
+quiet --planners 9|agenda: --planners: not from 1 to 8: '9' [BadSize]
+plan --room 0|agenda: --room: not from 1 to 1024: '0' [BadSize]
+quiet --room 1025|agenda: --room: not from 1 to 1024: '1025' [BadSize]
+plan --planners 9 --room 0 --limit 0|agenda: --planners: not from 1 to 8: '9' [BadSize]
+plan --room 0 --limit 0|agenda: --room: not from 1 to 1024: '0' [BadSize]
+plan --zone Nowhere/At_all --limit 0|agenda: zone 'Nowhere/At_all': no such zone [NoSuchZone]
+plan --utc --limit 0 --since 2024-01-02 --until 2024-01-01|agenda: --until is before --since (2024-01-02T00:00:00+00:00) [Backwards]
+quiet --room 0 --least x|agenda: --least: not a length: 'x' (such as '90min' or '2h') [BadLength]
+ROWS
+program_answers <<'ROWS'
+S/u=x\n|plan --limit 0||agenda: --limit: not from 1 to 1000000: '0' [BadLimit]|
+S/u=x\n|quiet --strict --room 0||agenda: --room: not from 1 to 1024: '0' [BadSize]|
 ROWS
 
 # ---- the next starts of a rule
@@ -227,6 +255,6 @@ ROWS
 next_errors <<'ROWS'
 x|--zone Nowhere/At_all --after x --count 0|agenda: zone 'Nowhere/At_all': no such zone [NoSuchZone]
 x|--utc --after x --count 0|agenda: --after: not a time: 'x' (such as 'tomorrow 02:00', '+8h', '2026-12-01 22:00') [BadTime]
-x|--utc --count 0|agenda: count: BadCount
-x|--utc --count 1001|agenda: count: BadCount
+x|--utc --count 0|agenda: --count: not from 1 to 1000: '0' [BadCount]
+x|--utc --count 1001|agenda: --count: not from 1 to 1000: '1001' [BadCount]
 ROWS

@@ -45,7 +45,6 @@ etc/crontab=@daily\x20root\x20a\n *a@b.timer U/a@.timer=[Timer]\nOnCalendar=6:00
 C/a=@reboot\x20root\x20a S/a=@daily\x20b|upcoming --utc --after 2024-01-01|2024-01-02T00:00:00Z>a.user:1>b;none>a:1>root a||
 etc/crontab=@daily\x20root\x20a\n *a@b.timer U/a@.timer=[Timer]\nOnCalendar=6:00\n|quiet --utc --since 2024-01-01|2024-01-01T00:00:00Z>2024-01-01T06:00:00Z>21600;2024-01-01T06:01:00Z>2024-01-02T00:00:00Z>64740||
 x/|quiet --utc --since 2024-01-01 --until +1hour --least 3600|2024-01-01T00:00:00Z>2024-01-01T01:00:00Z>3600||
-x/|quiet --utc --since 2024-01-01 --until +1hour --least 3601|||
 ROWS
 
 # Delays, which quiet counts by itself: a setting of a drop-in, which its last value decides, and one of a template.

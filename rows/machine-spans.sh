@@ -44,7 +44,7 @@ spans_no_times() {
   done
 }
 
-# Rows from standard input: the text of a length, and its seconds. A gap of the length is printed, and a shorter one is not.
+# Rows from standard input: the text of a length, and its seconds. A gap of the length is printed. A shorter one is not, and a line says how long it is.
 spans_lengths() {
   local text seconds
   while IFS='|' read -r text seconds; do
@@ -52,7 +52,9 @@ spans_lengths() {
     program_run quiet --root root --utc --since @0 --until "@$seconds" --least "$text"
     program_compare "--least '$text'" "$work/out.wanted" /dev/null 0
     program_run quiet --root root --utc --since @0 --until "@$((seconds - 1))" --least "$text"
-    program_compare "--least '$text' and a shorter gap" /dev/null /dev/null 0
+    printf 'agenda: no gap of %s: the longest is %s\n' "$(program_length "$seconds")" \
+      "$(program_length $((seconds - 1)))" >"$work/err.wanted"
+    program_compare "--least '$text' and a shorter gap" /dev/null "$work/err.wanted" 0
   done
 }
 
@@ -185,7 +187,8 @@ spans_lengths <<'ROWS'
 4294967295|4294967295
 ROWS
 program_run quiet --root root --utc --since @0 --until @1799
-program_compare "a gap of less than 30 minutes" /dev/null /dev/null 0
+echo 'agenda: no gap of 30 min: the longest is 29 min 59 s' >"$work/err.wanted"
+program_compare "a gap of less than 30 minutes" /dev/null "$work/err.wanted" 0
 for text in '' 0 0s 4294967296 1.5s 500ms infinity x -1 1:30; do
   spans_error "agenda: --least: not a length: '$text' (such as '90min' or '2h') [BadLength]" quiet "--least=$text"
 done

@@ -58,7 +58,7 @@ TABLE
 
 # Answers without a line.
 program_make x/
-table_is 'quiet|--table|--since|2024-01-01|--until|2024-01-02|--least|2d' <<'TABLE'
+table_is 'quiet|--table|--since|2024-01-01|--until|2024-01-02|--least|2d' 'agenda: no gap of 48 h: the longest is 24 h\n' <<'TABLE'
 START  END  LENGTH
 0 gaps from Mon 2024-01-01 00:00:00 to Tue 2024-01-02 00:00:00, UTC
 TABLE
@@ -320,6 +320,8 @@ table_widths <<'ROWS'
 19|all
 0|all
 -5|all
++40|all
+040|all
 x|all
 4x|all
 1000000|all

@@ -310,7 +310,9 @@ while IFS='|' read -r text seconds; do
   program_run quiet --root root --utc --since @0 --until "@$seconds" --least "$text"
   program_compare "--least '$text'" "$work/out.wanted" /dev/null 0
   program_run quiet --root root --utc --since @0 --until "@$((seconds - 1))" --least "$text"
-  program_compare "--least '$text' and a shorter gap" /dev/null /dev/null 0
+  printf 'agenda: no gap of %s: the longest is %s\n' "$(program_length "$seconds")" \
+    "$(program_length $((seconds - 1)))" >"$work/err.wanted"
+  program_compare "--least '$text' and a shorter gap" /dev/null "$work/err.wanted" 0
 done <<'ROWS'
 45s|45
 2d|172800

@@ -77,6 +77,8 @@ Options:
                       if it isn't given
       --utc           Read the rules in UTC, like --zone UTC, and print
                       times in UTC
+      --except <JOB>  Ignore the job with this name, as it is printed;
+                      may be given more than once
       --delays        Show each start with the latest time at which it may
                       happen (RandomizedDelaySec= and AccuracySec=)
       --strict        Let an error in a file stop the answer, instead of
@@ -113,6 +115,8 @@ Options:
                       if it isn't given
       --utc           Read the rules in UTC, like --zone UTC, and print
                       times in UTC
+      --table         Print a table, also if standard output isn't a terminal
+      --text          Print text, also on a terminal
       --json          Print each line as a JSON object; agenda(1)
                       describes the keys
   -h, --help          Print help
@@ -196,18 +200,20 @@ error: the argument '--zone <ZONE>' cannot be used with '--utc'
 For more information, try '--help'.
 END
   done
-  for words in '--table|--text' 'plan|--text|--json|--table' 'quiet|--text|--table'; do
+  for words in '--table|--text' 'plan|--text|--json|--table' 'quiet|--text|--table' 'next|daily|--table|--text'; do
     machine_words_tell_usage "$words" <<'END'
 error: the argument '--table' cannot be used with '--text'
 
 For more information, try '--help'.
 END
   done
-  machine_words_tell_usage 'upcoming|--json|--table' <<'END'
+  for words in 'upcoming|--json|--table' 'next|--json|daily|--table'; do
+    machine_words_tell_usage "$words" <<'END'
 error: the argument '--table' cannot be used with '--json'
 
 For more information, try '--help'.
 END
+  done
   machine_words_tell_usage 'plan|--text|--json' <<'END'
 error: the argument '--text' cannot be used with '--json'
 
@@ -269,6 +275,8 @@ upcoming|--after|now|tomorrow|02:00 => error: unexpected argument 'tomorrow' (fo
 upcoming|22:00|--all => error: unexpected argument '22:00' (for a time, use --after)
 upcoming|--since=x => error: unexpected argument '--since' found
 upcoming|--after=x|--after=x => error: the argument '--after <TIME>' cannot be used multiple times
+upcoming|--except => error: a value is required for '--except <JOB>' but none was supplied
+--except => error: a value is required for '--except <JOB>' but none was supplied
 upcoming|--nominal => error: unexpected argument '--nominal' found
 upcoming|--limit=1 => error: unexpected argument '--limit' found
 plan|tomorrow 02:00 => error: unexpected argument 'tomorrow 02:00' (for a time, use --since or --until)
@@ -281,12 +289,17 @@ plan|--tomorrow => error: unexpected argument '--tomorrow' found
 quiet|sat => error: unexpected argument 'sat' (for a time, use --since or --until)
 quiet|--least|2h|sun|04:00 => error: unexpected argument 'sun' (for a time, use --since or --until)
 plan|--after=x => error: unexpected argument '--after' found
+plan|--except|a|--except => error: a value is required for '--except <JOB>' but none was supplied
+plan|--except|a|b => error: unexpected argument 'b' (for a time, use --since or --until)
+quiet|--except => error: a value is required for '--except <JOB>' but none was supplied
 plan|--since => error: a value is required for '--since <TIME>' but none was supplied
 plan|--until=x|--upto=x => error: the argument '--until <TIME>' cannot be used multiple times
 plan|--least=1 => error: unexpected argument '--least' found
 plan|--local => error: unexpected argument '--local' found
 plan|--limit=x => error: invalid value 'x' for '--limit <N>': invalid digit found in string
 quiet|--delays => error: unexpected argument '--delays' found
+check|--except=a => error: unexpected argument '--except' found
+sources|--except=a => error: unexpected argument '--except' found
 check|--strict => error: unexpected argument '--strict' found
 sources|--strict => error: unexpected argument '--strict' found
 plan|--strict|--strict => error: the argument '--strict' cannot be used multiple times
@@ -300,9 +313,10 @@ next|daily|weekly => error: unexpected argument 'weekly' (for a time, use --afte
 next|daily|--count|2|tomorrow => error: unexpected argument 'tomorrow' (for a time, use --after)
 next|daily|--root=. => error: unexpected argument '--root' found
 next|daily|--all => error: unexpected argument '--all' found
+next|daily|--except=a => error: unexpected argument '--except' found
 next|daily|--strict => error: unexpected argument '--strict' found
 next|daily|--delays => error: unexpected argument '--delays' found
-next|daily|--table => error: unexpected argument '--table' found
+next|daily|--table|--table => error: the argument '--table' cannot be used multiple times
 next|daily|--since=x => error: unexpected argument '--since' found
 next|daily|--local => error: unexpected argument '--local' found
 next|--cron=@daily => error: unexpected argument '--cron' found

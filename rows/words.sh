@@ -49,7 +49,7 @@ Options:
 
 Times are given and printed in UTC, for the years 1970 to 2999. Rules are read in UTC, or
 in the time zone that you give with --zone; --local prints times in that zone, too.
-agenda-machine(1) finds the crontabs, the timers and the time zone of a machine. agenda(1)
+'agenda machine' finds the crontabs, the timers and the time zone of a machine. agenda(1)
 describes the formats, the limits and every error.
 
 Examples:

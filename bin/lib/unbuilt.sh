@@ -8,7 +8,8 @@ help_source=$top/rows/words.sh
 
 # Prints the names of the commands, one per line.
 command_names() {
-  sed -n 's/.* new_subcommand(alloc, "\([a-z]*\)",.*/\1/p' "$command_source"
+  sed -n '/^pub(crate) fn agenda_command/,/^    \];/s/^ *Subcommand::\([A-Za-z]*\),$/\1/p' "$command_source" |
+    tr '[:upper:]' '[:lower:]'
 }
 
 # Prints the help of the command $1, or that of the program for `agenda`, and ends the script.

@@ -254,6 +254,18 @@ program_answers() {
   done
 }
 
+# Prints a length of $1 seconds as a line for people has it: in at most two units, rounded down.
+program_length() {
+  local hours=$(($1 / 3600)) minutes=$(($1 / 60 % 60)) seconds=$(($1 % 60))
+  if [ "$1" -lt 60 ]; then
+    echo "$seconds s"
+  elif [ "$hours" = 0 ]; then
+    echo "$minutes min$([ "$seconds" = 0 ] || echo " $seconds s")"
+  else
+    echo "$hours h$([ "$minutes" = 0 ] || echo " $minutes min")"
+  fi
+}
+
 # Rows from standard input: arguments, with bars between them, that are usage errors: nothing is written to standard
 # output. The root exists.
 program_usage() {

@@ -1,7 +1,7 @@
 //! The program `agenda`: shows when jobs start, and what a mailbox replies, as its arguments request.
 #![tactic(auto)]
 
-use agenda_answers::{Frame, Host, answer, answer_arguments, unread_arguments};
+use agenda_answers::{Frame, Host, answer, answer_arguments, columns_of, unread_arguments};
 use agenda_inputs::{Files, read_front};
 use plan_tree::DiskTree;
 use std::alloc::Global;
@@ -39,7 +39,7 @@ fn main(rt: HostRuntime) -> ExitCode {
         tree: &tree,
         time: time_of(&rt),
         frame: Frame {
-            columns: columns_of(&rt),
+            columns: columns(&rt),
             terminal: rt.stdout().is_terminal(),
         },
     };
@@ -81,14 +81,11 @@ fn time_of(rt: &HostRuntime) -> u64 {
     }
 }
 
-// Returns the number of columns of the terminal that the environment gives, if that is from 20 to 999,999.
-fn columns_of(rt: &HostRuntime) -> Option<u32> {
-    let Ok(text) = env::var(rt, "COLUMNS") else {
-        return None;
-    };
-    match text.as_str().parse::<u32>() {
-        Ok(columns) if (20..=999_999).contains(&columns) => Some(columns),
-        _ => None,
+// Returns the number of columns of the terminal, if the environment gives it.
+fn columns(rt: &HostRuntime) -> Option<u32> {
+    match env::var(rt, "COLUMNS") {
+        Ok(text) => columns_of(text.as_str()),
+        Err(_) => None,
     }
 }
 

@@ -1,10 +1,14 @@
 -- What is found on a machine, or that its boot reaches too many units; what is computed unless an allocation fails; and whether
 -- standard error takes what is reported.
-use Rattle.std.proofs.Common.{◌≡◌, ℕ, Bool, true, false, List, Option, None, Some, IfNone, IfSome, Result, Ok, Err, is_err, refl, subst}
+use Rattle.std.proofs.Common.{◌≡◌, ℕ, Bool, true, false, List, Option, None, Some, MatchOption, Bor, Vec, Global, ap, length, IfNone, IfSome, IfErr, IfOk, Result, Ok, Err, is_err, refl, subst}
 use Rattle.std.proofs.KnownBytes.{Keeps-refl}
 use Rattle.std.specs.Io.KnownBytes.{Appends, Keeps}
+use Rattle.std.specs.Option.{IsSomeAnd, option_map}
+use Rattle.std.specs.Vec.{vec_len}
 use Rattle.plan_clock.specs.declared.row.Change.{Change}
 use Rattle.plan_streams.specs.Stream.{BreaksOff, Puts}
+use Rattle.plan_texts.specs.Steps.{◌>>=◌}
+use Rattle.plan_write.specs.declared.JobFile.{JobFile}
 use Rattle.plan_streams.specs.declared.WriteFault.{WriteFault}
 use Rattle.plan_machine.specs.Machine.{AreTooManyUnits, IsMachine}
 use Rattle.plan_machine.specs.declared.machine.Machine.{Machine}
@@ -12,15 +16,20 @@ use Rattle.agenda_arguments.specs.declared.MachineJobs.{MachineJobs}
 use Rattle.agenda_faults.specs.declared.faults.Failure.{Failure}
 use Rattle.agenda_faults.specs.declared.faults.Failure.TheVariants.{Run}
 use Rattle.agenda_faults.specs.declared.faults.RunFault.{RunFault}
-use Rattle.agenda_faults.specs.declared.faults.RunFault.TheVariants as run
+use Rattle.agenda_faults.specs.declared.faults.RunFault.TheVariants.{NoMemory}
 use Rattle.agenda_faults.specs.Status.{failed_status}
+use Rattle.plan_rules.specs.Job.{JobParts}
+use Rattle.agenda_commands.specs.Goal.{Makes, checked_goal, checked_jobs, sized_goal, valid_goal}
+use Rattle.agenda_commands.specs.Remark.{remark_of}
 use Rattle.agenda_commands.specs.declared.Goal.{Goal}
+use Rattle.agenda_commands.specs.declared.RemarkedAnswer.{RemarkedAnswer}
 use Rattle.agenda_sources.specs.declared.Found.{Found}
 use Rattle.agenda_sources.specs.declared.Source.{Source}
 use Rattle.agenda_sources.specs.declared.SourcePath.{SourcePath}
 use Rattle.agenda_inputs.specs.Files.{Held, most_read}
 use Rattle.agenda_answers.specs.Host.{KnownHost}
-use Rattle.agenda_answers.specs.Machine.{Shown, found_below, in_words, jobs_rest, machine_zones, outcome_of, plans, shows_jobs, stops_at_first}
+use Rattle.agenda_answers.specs.Machine.{Shown, found_below, jobs_rest, machine_zones, parted, plans, said_of, shows_jobs, stops_at_first}
+use Rattle.agenda_answers.specs.Outcome.{Outcome, answer_of, settles}
 use Rattle.agenda_inputs.specs.MachineZone.{KnownTree}
 use Rattle.agenda_inputs.specs.Steps.{Step, goes, stops}
 
@@ -33,9 +42,9 @@ found_either tree all (Some machine) some none = some
 -- an allocation failed before the zones of a machine were read
 pub no_accuracy :
     (held : Held) (tree : KnownTree) (clock : List Change) (sources : List Source) →
-    machine_zones held tree clock sources (Err (Run run.NoMemory))
+    machine_zones held tree clock sources (Err (Run NoMemory))
 unfolding machine_zones
-no_accuracy held tree clock sources = stops (Run run.NoMemory) refl refl
+no_accuracy held tree clock sources = stops (Run NoMemory) refl refl
 
 -- the answer goes by what is planned, and otherwise by what is found on the machine
 pub shown_as_planned :
@@ -63,25 +72,65 @@ pub told :
 told reports (Ok done) flag takes_all old new is unset put = put
 told reports (Err fault) flag takes_all old new is unset off = absurd cc
 
--- ---- a strict answer
+-- ---- an answer for jobs
 
+-- an error stops a strict answer
 pub rest_stopped :
-    (stopped : Bool) (paths : List SourcePath) (errors : List Found) (status : ℕ) (goal : Goal)
-    (answers : Step (Result (List ℕ) RunFault)) → stopped ≡ true →
-    jobs_rest stopped paths errors status goal answers (Ok (stops_at_first paths errors))
-rest_stopped true paths errors status goal answers is = refl
-rest_stopped false paths errors status goal answers is = absurd cc
+    (stopped : Bool) (paths : List SourcePath) (errors : List Found) (answers : Step (Outcome × Option (List ℕ))) → stopped ≡ true →
+    jobs_rest stopped paths errors answers (Ok (stops_at_first paths errors))
+rest_stopped true paths errors answers is = refl
+rest_stopped false paths errors answers is = absurd cc
 
+-- without one there is a failure, or an answer
 pub rest_failed :
-    (stopped : Bool) (paths : List SourcePath) (errors : List Found) (status : ℕ) (goal : Goal)
-    (answers : Step (Result (List ℕ) RunFault)) (failure : Failure) → stopped ≡ false → answers (Err failure) →
-    jobs_rest stopped paths errors status goal answers (Err failure)
-rest_failed true paths errors status goal answers failure is fails = absurd cc
-rest_failed false paths errors status goal answers failure is fails = stops failure fails refl
+    (stopped : Bool) (paths : List SourcePath) (errors : List Found) (answers : Step (Outcome × Option (List ℕ))) (failure : Failure) →
+    stopped ≡ false → answers (Err failure) → jobs_rest stopped paths errors answers (Err failure)
+rest_failed true paths errors answers failure is fails = absurd cc
+rest_failed false paths errors answers failure is fails = stops failure fails refl
 
 pub rest_planned :
-    (stopped : Bool) (paths : List SourcePath) (errors : List Found) (status : ℕ) (goal : Goal)
-    (answers : Step (Result (List ℕ) RunFault)) (answer : Result (List ℕ) RunFault) → stopped ≡ false → answers (Ok answer) →
-    jobs_rest stopped paths errors status goal answers (Ok (plans (outcome_of paths errors status (in_words goal answer))))
-rest_planned true paths errors status goal answers answer is made = absurd cc
-rest_planned false paths errors status goal answers answer is made = goes answer made refl
+    (stopped : Bool) (paths : List SourcePath) (errors : List Found) (answers : Step (Outcome × Option (List ℕ)))
+    (answer : Outcome × Option (List ℕ)) → stopped ≡ false → answers (Ok answer) →
+    jobs_rest stopped paths errors answers (Ok (plans answer.0 answer.1))
+rest_planned true paths errors answers answer is made = absurd cc
+rest_planned false paths errors answers answer is made = goes answer made refl
+
+-- files that are lent are the same
+pub lent_files :
+    (files : Option (Vec JobFile Global)) (lent : Option (Bor (List JobFile))) →
+    MatchOption files (lent ≡ None) (λ x. IsSomeAnd lent (λ y. (y.now ≡ x.items) × (length y.now ≡ vec_len x))) →
+    option_map (λ (y : Bor (List JobFile)). y.now) lent ≡ option_map (λ (x : Vec JobFile Global). x.items) files
+lent_files None lent none = ap (option_map (λ (y : Bor (List JobFile)). y.now)) none
+lent_files (Some x) None is = absurd is
+lent_files (Some x) (Some y) is = ap Some is.0
+
+-- an error of the first of two checks is theirs
+first_of :
+    {A B : Type 0} (first : Result A RunFault) (next : A → Result B RunFault) (P : RunFault → Type 0) →
+    IfErr (first >>= next) P → IfErr first P
+first_of (Ok a) next P is = tt
+first_of (Err fault) next P is = is
+
+pub first_error : (goal : Goal) (P : RunFault → Type 0) → IfErr (checked_goal goal) P → IfErr (valid_goal goal) P
+first_error goal P is = first_of (valid_goal goal) (λ valid. sized_goal goal) P is
+
+-- the answer that is left of one with what is said about it
+pub settled_parts :
+    (Answers : Goal → Result (List JobParts) RunFault → Result (List ℕ) RunFault → Type 0) (goal : Goal)
+    (jobs : Result (List JobParts) RunFault) (made settled : Result RemarkedAnswer RunFault) →
+    Makes (Answers goal (checked_jobs goal jobs)) (λ all. all.answer) made → settles made (Ok settled) →
+    answer_of Answers goal jobs (Ok (parted settled).0)
+settled_parts Answers goal jobs made (Ok all) is same =
+    ((λ none. cc), subst (Makes (Answers goal (checked_jobs goal jobs)) (λ all. all.answer)) same is)
+settled_parts Answers goal jobs made (Err fault) is (other, same) = (
+  (λ none. other (let one : fault ≡ NoMemory = cc in one)),
+  (subst (Makes (Answers goal (checked_jobs goal jobs)) (λ all. all.answer)) same is) other,
+)
+
+-- and what is said about it
+pub said_parts :
+    (goal : Goal) (kept : List JobParts) (made settled : Result RemarkedAnswer RunFault) →
+    IfOk made (λ all. all.remark ≡ remark_of goal kept) → settles made (Ok settled) →
+    (parted settled).1 ≡ said_of (parted settled).0 (remark_of goal kept)
+said_parts goal kept made (Ok all) remark same = subst (λ r. IfOk r (λ a. a.remark ≡ remark_of goal kept)) same remark
+said_parts goal kept made (Err fault) remark same = refl

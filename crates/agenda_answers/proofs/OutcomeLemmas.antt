@@ -33,7 +33,7 @@ kept_fails true zones sources spared = refl
 kept_fails false zones sources spared = let none : false ≡ true = spared refl in cc
 
 fails_at_once :
-    (valid : Result (Unit {0}) RunFault) (made : Result (List ℕ) RunFault) (failure : Failure) → IfErr valid (λ fault. made ≡ Err fault) →
+    {A : Type 0} (valid : Result (Unit {0}) RunFault) (made : Result A RunFault) (failure : Failure) → IfErr valid (λ fault. made ≡ Err fault) →
     failure ≡ Run NoMemory → made ≡ Err NoMemory → IfErr valid (λ fault. failure ≡ Run fault)
 fails_at_once (Ok done) made failure bad is memory = tt
 fails_at_once (Err fault) made failure bad is memory = cc
@@ -54,8 +54,8 @@ settled_answer Answers goal jobs made (Err failure) is bad (memory, none) =
     (memory, fails_at_once (valid_goal goal) made failure bad memory none)
 
 pub settled_failure :
-    (Answers : Goal → Result (List JobParts) RunFault → Result (List ℕ) RunFault → Type 0) (goal : Goal)
-    (jobs : Result (List JobParts) RunFault) (made : Result (List ℕ) RunFault) (failure : Failure) →
+    {A : Type 0} (Answers : Goal → Result (List JobParts) RunFault → Result (List ℕ) RunFault → Type 0) (goal : Goal)
+    (jobs : Result (List JobParts) RunFault) (made : Result A RunFault) (failure : Failure) →
     IfErr (valid_goal goal) (λ fault. made ≡ Err fault) → (failure ≡ Run NoMemory) × (made ≡ Err NoMemory) →
     answer_of Answers goal jobs (Err failure)
 settled_failure Answers goal jobs made failure bad (memory, none) =

@@ -2,12 +2,12 @@
 use Rattle.std.proofs.Common.{◌≡◌, ℕ, Bool, List, Option, Result, Ok, Err, IfErr, OnOk, refl}
 use Rattle.std.specs.Result.{IsErrAnd}
 use Rattle.std.proofs.KnownBytes.{Keeps-refl}
-use Rattle.agenda_commands.specs.Command.{Fails, IsFaultOf, IsTextOf, Outputs, Writes}
+use Rattle.agenda_commands.specs.Command.{Fails, IsFaultOf, IsTextOf, Outputs, OutputsAnswer, Writes}
 use Rattle.agenda_faults.specs.declared.faults.Failure.{Failure}
 use Rattle.agenda_faults.specs.declared.faults.Failure.TheVariants.{Run}
 use Rattle.agenda_faults.specs.declared.faults.RunFault.{RunFault}
 use Rattle.agenda_faults.specs.declared.faults.RunFault.TheVariants as run
-use Rattle.agenda_answers.specs.Answer.{Leaves, Printed, outputs, outputs_if, prints, status_after}
+use Rattle.agenda_answers.specs.Answer.{Leaves, Printed, answers_if, outputs, outputs_if, prints, status_after}
 use Rattle.agenda_inputs.specs.Steps.{Step, ◌>>=◌, stops, goes}
 
 -- the first step failed, and its failure was passed on
@@ -65,16 +65,26 @@ same_error :
 same_error (Ok n) fault done is same = tt
 same_error (Err found) fault done is same = cc
 
--- the same of a command that checks a number first
+-- the same of a command that checks a number first, by what answers it
+pub answered_if :
+    {A : Type 0} (number : Result ℕ RunFault) (Answers : Result (List ℕ) RunFault → Type 0) (takes_all : Bool) (run : Result A RunFault)
+    (old new : Option (List ℕ)) → OutputsAnswer takes_all Answers run old new → IfErr number (λ found. run ≡ Err found) →
+    Leaves takes_all (answers_if number Answers) (status_after run) old new
+answered_if number Answers takes_all (Ok done) old new wrote bad = printed (λ text. Answers (Ok text)) _ takes_all 0 old new wrote
+answered_if number Answers takes_all (Err (run.Device stream)) old new (text, is, off) bad =
+    record { end = Ok (record { text = text; status = 0 }); ends = (is, refl); puts = (stream, refl, off) }
+answered_if number Answers takes_all (Err other) old new failed bad =
+    record { end = Err (Run other); ends = (failed.0, same_error number other _ refl bad); puts = (refl, failed.1) }
+
+-- the same by its output
 pub ran_if :
     {A : Type 0} (number : Result ℕ RunFault) (output : Result (List ℕ) RunFault) (takes_all : Bool) (run : Result A RunFault)
     (old new : Option (List ℕ)) → Outputs takes_all output run old new → IfErr number (λ found. run ≡ Err found) →
     Leaves takes_all (outputs_if number output) (status_after run) old new
-ran_if number output takes_all (Ok done) old new wrote bad = printed (IsTextOf output) _ takes_all 0 old new wrote
-ran_if number output takes_all (Err (run.Device stream)) old new (text, is, off) bad =
-    record { end = Ok (record { text = text; status = 0 }); ends = (is, refl); puts = (stream, refl, off) }
-ran_if number output takes_all (Err other) old new failed bad =
-    record { end = Err (Run other); ends = (failed.0, same_error number other _ refl bad); puts = (refl, failed.1) }
+ran_if number output takes_all (Ok done) old new wrote bad =
+    answered_if number (λ answer. output ≡ answer) takes_all (Ok done) old new wrote bad
+ran_if number output takes_all (Err fault) old new failed bad =
+    answered_if number (λ answer. output ≡ answer) takes_all (Err fault) old new failed bad
 
 -- what holds after success holds after the status
 pub flushed_after : {A : Type 0} (P : Type 0) (run : Result A RunFault) → OnOk run P → OnOk (status_after run) P

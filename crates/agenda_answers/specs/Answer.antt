@@ -1,5 +1,5 @@
 -- What commands print, and what both streams hold after them. All of it is our choice (agenda).
-use Rattle.std.specs.Prelude.{◌≡◌, ⊤, ℕ, Bool, false, List, codes, Option, Result, Ok, Err, IfErr}
+use Rattle.std.specs.Prelude.{◌≡◌, ◌≢◌, ⊤, ℕ, Bool, false, List, codes, Option, Result, Ok, Err, IfErr}
 use Rattle.std.specs.Io.KnownBytes.{Appends, Keeps}
 use Rattle.agenda_codes.specs.declared.Code.{Code}
 use Rattle.agenda_arguments.specs.declared.ZonesRequest.{ZonesRequest}
@@ -54,6 +54,12 @@ outputs status output = prints status (IsTextOf output) (IsFaultOf output)
 -- the same for a command that checks a number before it requests memory, with the status of success
 abbrev pub outputs_if : (number : Result ℕ RunFault) → Result (List ℕ) RunFault → Step Printed
 outputs_if number output = prints done_status (IsTextOf output) (λ fault. IsFaultOf output fault × IfErr number (λ found. fault ≡ found))
+
+-- the same by what answers the command: any answer is possible if an allocation failed
+abbrev pub answers_if : (number : Result ℕ RunFault) → (Result (List ℕ) RunFault → Type 0) → Step Printed
+answers_if number Answers =
+    prints done_status (λ text. Answers (Ok text))
+    (λ fault. (fault ≢ run.NoMemory → Answers (Err fault)) × IfErr number (λ found. fault ≡ found))
 
 -- the exit status after a command that prints a text, or its failure
 abbrev pub status_after : {A : Type 0} → Result A RunFault → Result ℕ Failure

@@ -5,12 +5,12 @@ use Rattle.plan_rules.specs.declared.NamedZone.{NamedZone}
 use Rattle.plan_write.specs.declared.Format.{Format}
 use Rattle.agenda_arguments.specs.Tables.{is_table}
 use Rattle.agenda_arguments.specs.declared.FormatRequest.{FormatRequest}
-use Rattle.agenda_arguments.specs.declared.MachineJobs.{MachineJobs}
 use Rattle.agenda_commands.specs.declared.Form.{Form}
 use Rattle.agenda_commands.specs.declared.Form.TheVariants.{Lines, Table}
 use Rattle.agenda_table.specs.declared.Frame.{Frame}
 use Rattle.agenda_faults.specs.declared.faults.Failure.TheVariants.{Run}
 use Rattle.agenda_faults.specs.declared.faults.RunFault.TheVariants.{NoMemory}
+use Rattle.agenda_answers.specs.declared.formats.FormRequest.{FormRequest}
 use Rattle.agenda_inputs.specs.Steps.{Step}
 
 -- the given zone, with its text as its name; without a text it is called `unnamed`
@@ -39,16 +39,16 @@ utc_name = codes "UTC"
 abbrev pub unnamed_zone : (is_of_file : Bool) → List ℕ
 unnamed_zone is_of_file = if is_of_file then codes "local" else utc_name
 
--- the form of the answer about the jobs of a machine: a table or lines
+-- the form of an answer about a machine: a table or lines
 abbrev pub form_of :
-    MachineJobs → (origin : Option ℕ) → Frame → (given : Option (List ℕ)) → (unnamed : List ℕ) → (clock : List Change) → Form
-form_of jobs origin frame given unnamed clock =
-    if is_table jobs.table frame.terminal
+    FormRequest → (origin : Option ℕ) → Frame → (given : Option (List ℕ)) → (unnamed : List ℕ) → (clock : List Change) → Form
+form_of request origin frame given unnamed clock =
+    if is_table request.table frame.terminal
     then Table (record { zone = zone_of given unnamed clock; origin = origin; frame = frame })
-    else Lines (format_of jobs.format given unnamed clock)
+    else Lines (format_of request.format given unnamed clock)
 
 -- the form is made, unless an allocation fails
 abbrev pub form_made :
-    MachineJobs → (origin : Option ℕ) → Frame → (given : Option (List ℕ)) → (unnamed : List ℕ) → (clock : List Change) → Step Form
-form_made jobs origin frame given unnamed clock (Ok form) = form ≡ form_of jobs origin frame given unnamed clock
-form_made jobs origin frame given unnamed clock (Err failure) = failure ≡ Run NoMemory
+    FormRequest → (origin : Option ℕ) → Frame → (given : Option (List ℕ)) → (unnamed : List ℕ) → (clock : List Change) → Step Form
+form_made request origin frame given unnamed clock (Ok form) = form ≡ form_of request origin frame given unnamed clock
+form_made request origin frame given unnamed clock (Err failure) = failure ≡ Run NoMemory

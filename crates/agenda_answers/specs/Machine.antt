@@ -2,7 +2,10 @@
 use Rattle.std.specs.Prelude.{◌≡◌, ◌⊎◌, ℕ, Bool, true, false, not, ◌&&◌, ◌==◌, if◌then◌else◌, List, [], length, take, Option, None, Some, Result, Ok, Err}
 use Rattle.std.specs.Io.KnownBytes.{Appends, Keeps}
 use Rattle.plan_clock.specs.declared.row.Change.{Change}
+use Rattle.plan_rules.specs.Job.{JobParts}
+use Rattle.plan_rules.specs.Jobs.{without}
 use Rattle.plan_streams.specs.Stream.{BreaksOff}
+use Rattle.plan_write.specs.declared.JobFile.{JobFile}
 use Rattle.plan_services.specs.Accuracy.{default_accuracy}
 use Rattle.plan_tree.specs.Tree.{Held as TreeHeld, below, is_directory, path_below}
 use Rattle.plan_machine.specs.Machine.{AreTooManyUnits, IsMachine}
@@ -19,11 +22,16 @@ use Rattle.agenda_faults.specs.declared.faults.RunFault.TheVariants as run
 use Rattle.plan_collect.specs.declared.CollectFault.TheVariants as collect
 use Rattle.plan_collect.specs.declared.PlanFault.TheVariants as plan
 use Rattle.agenda_commands.specs.Form.{AnswersForm, origin_of}
+use Rattle.agenda_commands.specs.Remark.{remark_of}
+use Rattle.agenda_commands.specs.declared.RemarkedAnswer.{RemarkedAnswer}
+use Rattle.agenda_commands.specs.declared.Form.{Form}
+use Rattle.agenda_commands.specs.declared.Form.TheVariants as form
 use Rattle.agenda_commands.specs.declared.Goal.{Goal}
 use Rattle.agenda_commands.specs.declared.Goal.TheVariants as goal
 use Rattle.agenda_faults.specs.Status.{done_status, failed_status, rejected_status}
 use Rattle.agenda_findings.specs.Findings.{check_text}
 use Rattle.agenda_findings.specs.Skipped.{skipped_text}
+use Rattle.agenda_machine.specs.JobFiles.{files_of_jobs}
 use Rattle.agenda_machine.specs.Listing.{sources_text}
 use Rattle.agenda_machine.specs.Monotonic.{with_monotonic}
 use Rattle.agenda_machine.specs.Places.{located, paths_of, sources_of}
@@ -91,10 +99,11 @@ machine_of tree all dir = do
 
 -- ---- the questions
 
--- what follows what is reported: a text with its exit status, or the answer for jobs, or errors of which the first stops it
+-- what follows what is reported: a text with its exit status, or the answer for jobs and what is said about it, or errors of which the
+-- first stops it
 pub data Rest : Type 0 where
   prints : Printed → Rest
-  plans : Outcome → Rest
+  plans : Outcome → (remark : Option (List ℕ)) → Rest
   stops_at_first : (paths : List SourcePath) → (errors : List Found) → Rest
 
 -- what is reported of a machine, and whether that is anything; and what follows
@@ -135,7 +144,7 @@ findings_rest dir json machine found = checked_rest json machine (paths_of json 
 abbrev pub rest_of : (dir : List ℕ) → Machine → Printout → Rest
 rest_of dir machine (printout.Sources json) = sources_rest dir json machine
 rest_of dir machine (printout.Findings paths found json) = checked_rest json machine paths found.items
-rest_of dir machine (printout.Jobs outcome) = plans outcome
+rest_of dir machine (printout.Jobs outcome remark) = plans outcome remark
 rest_of dir machine (printout.Stopped skipped) = stops_at_first skipped.paths skipped.errors.items
 
 -- what is shown of a machine, by what isn't planned there
@@ -183,6 +192,21 @@ shows_findings held tree dir zone json machine = do
   computes (shown_of dir machine clock.is_unknown
       (findings_rest dir json machine (found_in machine zones (sources_of machine.sources.items))))
 
+-- the jobs that are left: without the errors, and without the jobs with these names
+abbrev pub kept_in : (except : List (List ℕ)) → TimeZones → List Source → List JobParts
+kept_in except zones sources = without except (kept_jobs zones sources)
+
+-- the files of jobs, if an answer in this form has them: its lines in JSON do
+abbrev pub files_if : Form → (files : List JobFile) → Option (List JobFile)
+files_if (form.Lines format) files = if format.json then Some files else None
+files_if (form.Table table) files = None
+
+-- the answer for jobs, in this form, with the files that they come from
+abbrev pub answers_with_files : (dir : List ℕ) → Machine → Form → Goal → (kept : List JobParts) → Step (Result (List ℕ) RunFault)
+answers_with_files dir machine form goal kept = do
+  files ← computes (files_if form (files_of_jobs (root_of dir) machine.sources.items kept))
+  answer_of (AnswersForm files form) goal (Ok kept)
+
 -- an answer; if it has too many starts, the error names the limit
 abbrev pub naming_limit : (limit : ℕ) → Result (List ℕ) RunFault → Result (List ℕ) RunFault
 naming_limit limit (Err (run.Plan (plan.Collect collect.TooMany))) = Err (run.TooManyStarts limit)
@@ -202,23 +226,43 @@ outcome_of paths errors status answer = record { unread = []; paths = paths; err
 abbrev pub is_stopped : (strict : Bool) → List Found → Bool
 is_stopped strict errors = strict && not (length errors == 0)
 
+-- an answer, and what is said about it; nothing is said about an error
+abbrev pub parted : Result RemarkedAnswer RunFault → Result (List ℕ) RunFault × Option (List ℕ)
+parted (Ok made) = (Ok made.answer, made.remark)
+parted (Err fault) = (Err fault, None)
+
+abbrev pub said_of : Result (List ℕ) RunFault → (remark : Option (List ℕ)) → Option (List ℕ)
+said_of (Ok text) remark = remark
+said_of (Err fault) remark = None
+
+-- the answer for the jobs that are left, and what is said about it
+abbrev pub answers_said :
+    (dir : List ℕ) → Machine → (paths : List SourcePath) → List Found → Form → Goal → (kept : List JobParts) →
+    Step (Outcome × Option (List ℕ))
+answers_said dir machine paths errors form goal kept = do
+  answer ← answers_with_files dir machine form goal kept
+  gives (
+    outcome_of paths errors (machine_status machine (is_all_clean errors)) (in_words goal answer),
+    said_of answer (remark_of goal kept),
+  )
+
 -- what follows if the answer is stopped, or else the answer
-abbrev pub jobs_rest :
-    (stopped : Bool) → (paths : List SourcePath) → List Found → (status : ℕ) → Goal → Step (Result (List ℕ) RunFault) → Step Rest
-jobs_rest true paths errors status goal answers = gives (stops_at_first paths errors)
-jobs_rest false paths errors status goal answers = do
+abbrev pub jobs_rest : (stopped : Bool) → (paths : List SourcePath) → List Found → Step (Outcome × Option (List ℕ)) → Step Rest
+jobs_rest true paths errors answers = gives (stops_at_first paths errors)
+jobs_rest false paths errors answers = do
   answer ← answers
-  gives (plans (outcome_of paths errors status (in_words goal answer)))
+  gives (plans answer.0 answer.1)
 
 -- the answer for the jobs of a machine, in these time zones
 abbrev pub shows_jobs_in :
     (dir : List ℕ) → MachineJobs → KnownHost → Goal → Machine → (unplanned : List NotPlanned) → ZoneClock → TimeZones → Step Shown
 shows_jobs_in dir jobs host goal machine unplanned clock zones = do
-  form ← form_made jobs (origin_of goal host.time) host.frame clock.name (unnamed_zone clock.is_of_file) zones.clock
+  form ← form_made (record { format = jobs.format; table = jobs.table }) (origin_of goal host.time) host.frame clock.name
+      (unnamed_zone clock.is_of_file) zones.clock
   errors ← computes (errors_in machine zones (sources_of machine.sources.items))
   rest ← jobs_rest (is_stopped jobs.strict errors) (paths_of false (root_of dir) machine.sources.items) errors
-      (machine_status machine (is_all_clean errors)) goal
-      (answer_of (AnswersForm form) goal (Ok (kept_jobs zones (sources_of machine.sources.items))))
+      (answers_said dir machine (paths_of false (root_of dir) machine.sources.items) errors form goal
+      (kept_in jobs.except zones (sources_of machine.sources.items)))
   gives (shown_with dir machine unplanned clock.is_unknown rest)
 
 -- `upcoming`, `plan` and `quiet`: the zone is read first, then the times, and then the zones of events
@@ -255,10 +299,23 @@ ReportsFirst paths errors status err =
     (BreaksOff err.takes_all err.old err.new (skipped_text [] paths (take 1 errors)) × (status ≡ failed_status))
     ⊎ (Appends err.old err.new (skipped_text [] paths (take 1 errors)) × (status ≡ rejected_status))
 
+-- what is said after an answer, which ended with the status `before`: nothing if the answer failed, and otherwise a line; or standard
+-- error breaks off in it
+abbrev pub SaysUnless : (failed : Bool) → (line : List ℕ) → (before status : ℕ) → StreamChange → Type 0
+SaysUnless true line before status err = (status ≡ before) × Keeps err.old err.new
+SaysUnless false line before status err =
+    (BreaksOff err.takes_all err.old err.new line × (status ≡ failed_status)) ⊎ (Appends err.old err.new line × (status ≡ before))
+
+abbrev pub Says : (remark : Option (List ℕ)) → (before status : ℕ) → StreamChange → Type 0
+Says None before status err = (status ≡ before) × Keeps err.old err.new
+Says (Some line) before status err = SaysUnless (before == failed_status) line before status err
+
 -- what follows what is reported
 abbrev pub ShowsRest : Rest → ℕ → (out err : StreamChange) → Type 0
 ShowsRest (prints printed) status out err = ExitsWith [] (Ok printed) status out err
-ShowsRest (plans outcome) status out err = Reports [] outcome status out err
+ShowsRest (plans outcome remark) status out err =
+    (before : ℕ) × (mid : Option (List ℕ)) × Reports [] outcome before out (record err { new = mid })
+    × Says remark before status (record err { old = mid })
 ShowsRest (stops_at_first paths errors) status out err = ReportsFirst paths errors status err × Keeps out.old out.new
 
 -- standard error breaks off in what is reported, and nothing is printed; or it takes that, and the answer follows

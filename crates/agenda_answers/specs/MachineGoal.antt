@@ -1,7 +1,8 @@
 -- What is asked about the jobs of a machine, once the times and the length were read. All of it is our choice (agenda).
-use Rattle.std.specs.Prelude.{◌≡◌, ℕ, ◌<◌, nat_le, Bool, true, false, List, Option, None, Some, Result, Ok, Err}
+use Rattle.std.specs.Prelude.{◌≡◌, ℕ, ◌<◌, nat_le, ◌&&◌, Bool, true, false, List, Option, None, Some, Result, Ok, Err}
 use Rattle.plan_clock.specs.declared.row.Change.{Change}
 use Rattle.plan_collect.specs.Span.{Bounds}
+use Rattle.plan_collect.specs.declared.Sizes.{Sizes}
 use Rattle.plan_sets.specs.Limits.{end_second}
 use Rattle.plan_times.specs.Forms.{form_of, length_of}
 use Rattle.plan_times.specs.Times.{IsSince, IsUntil}
@@ -14,7 +15,10 @@ use Rattle.agenda_arguments.specs.declared.SpanRequest.{SpanRequest}
 use Rattle.agenda_commands.specs.declared.Goal.{Goal}
 use Rattle.agenda_commands.specs.declared.Goal.TheVariants as goal
 use Rattle.agenda_faults.specs.declared.faults.Failure.TheVariants.{Machine}
-use Rattle.agenda_faults.specs.declared.machine_faults.MachineFault.TheVariants.{Time, Length, Backwards, Clock}
+use Rattle.agenda_faults.specs.declared.machine_faults.MachineFault.TheVariants.{Time, Length, Number, Backwards, Clock}
+use Rattle.agenda_faults.specs.MachineLines.{most_of}
+use Rattle.agenda_faults.specs.declared.machine_faults.NumberOption.{NumberOption}
+use Rattle.agenda_faults.specs.declared.machine_faults.NumberOption.TheVariants.{Planners, Room, Limit}
 use Rattle.agenda_faults.specs.declared.machine_faults.TimeOption.{TimeOption}
 use Rattle.agenda_faults.specs.declared.machine_faults.TimeOption.TheVariants as option
 use Rattle.agenda_inputs.specs.MachineZone.{fails_with}
@@ -66,6 +70,23 @@ abbrev pub least_of : (text : List ℕ) → (length : Option ℕ) → Step ℕ
 least_of text (Some least) = gives least
 least_of text None = fails_with (Machine (Length text))
 
+-- a number of an option, if it is in its range
+abbrev pub number_if : (is_in_range : Bool) → NumberOption → (number : ℕ) → Step ℕ
+number_if true option number = gives number
+number_if false option number = fails (Machine (Number option number))
+
+-- the number of an option
+abbrev pub number_in : NumberOption → (number : ℕ) → Step ℕ
+number_in option number = number_if (nat_le 1 number && nat_le number (most_of option)) option number
+
+-- the sizes of a plan, each of which has its range
+abbrev pub sizes_in : Sizes → Step Sizes
+sizes_in sizes = do
+  planners ← number_in Planners sizes.planners
+  room ← number_in Room sizes.room
+  limit ← number_in Limit sizes.limit
+  gives sizes
+
 -- what is made of jobs
 abbrev pub goal_by : (now : ℕ) → (clock : List Change) → (delays : Bool) → MachineGoal → Step Goal
 goal_by now clock delays (Upcoming after) = do
@@ -73,11 +94,13 @@ goal_by now clock delays (Upcoming after) = do
   gives (goal.Upcoming moment delays)
 goal_by now clock delays (Plan span sizes) = do
   bounds ← span_at now clock span
-  gives (goal.Plan (record { span = bounds; sizes = sizes; delays = delays }))
+  valid ← sizes_in sizes
+  gives (goal.Plan (record { span = bounds; sizes = valid; delays = delays }))
 goal_by now clock delays (Quiet span sizes least) = do
   bounds ← span_at now clock span
   seconds ← least_of least (length_of least)
-  gives (goal.Quiet (record { span = bounds; sizes = sizes; delays = delays }) seconds)
+  valid ← sizes_in sizes
+  gives (goal.Quiet (record { span = bounds; sizes = valid; delays = delays }) seconds)
 
 -- the same, as it is asked, at the time that the system clock shows
 abbrev pub goal_at : (time : ℕ) → (clock : List Change) → MachineJobs → Step Goal

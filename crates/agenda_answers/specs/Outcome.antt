@@ -46,9 +46,9 @@ abbrev pub kept_of : (keeps_going : Bool) → TimeZones → List Source → Step
 kept_of true zones sources = computes (sources_errors zones sources, Some (kept_jobs zones sources))
 kept_of false zones sources = gives ([], None)
 
--- an answer is a text or an error; if an allocation failed, the whole request fails
-abbrev pub settles : Result (List ℕ) RunFault → Step (Result (List ℕ) RunFault)
-settles made (Ok (Ok text)) = made ≡ Ok text
+-- an answer is there or an error; if an allocation failed, the whole request fails
+abbrev pub settles : {A : Type 0} → Result A RunFault → Step (Result A RunFault)
+settles made (Ok (Ok answer)) = made ≡ Ok answer
 settles made (Ok (Err fault)) = (fault ≢ NoMemory) × (made ≡ Err fault)
 settles made (Err failure) = (failure ≡ Run NoMemory) × (made ≡ Err NoMemory)
 

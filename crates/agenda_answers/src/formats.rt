@@ -3,7 +3,7 @@
 ghost use Rattle.std.specs.Prelude.{◌≡◌, IfOk};
 ghost use Rattle.agenda_answers.specs.Formats.{form_made, format_made, unnamed_zone, zone_of};
 
-use agenda_arguments::{FormatRequest, MachineJobs};
+use agenda_arguments::{FormatRequest, TableRequest};
 use agenda_commands::{Form, TableForm};
 use agenda_faults::Failure;
 use agenda_inputs::named_zone;
@@ -18,6 +18,15 @@ pub(crate) const UTC: &str = "UTC";
 
 // The name of a zone whose file has none.
 const LOCAL: &str = "local";
+
+/// In which form an answer about a machine is requested.
+#[derive(Clone, Copy, Debug)]
+pub(crate) struct FormRequest {
+    /// How it is written, unless it is a table.
+    pub(crate) format: FormatRequest,
+    /// Whether it is a table.
+    pub(crate) table: TableRequest,
+}
 
 /// Makes the format of an answer whose zone is given by this text, and has this clock. Without a text the zone is called `unnamed`.
 ///
@@ -46,23 +55,23 @@ pub(crate) fn make_format(
     })
 }
 
-/// Makes the form of an answer about the jobs of a machine. A table counts from `origin`, and is shown in this frame.
+/// Makes the form of an answer about a machine. A table counts from `origin`, and is shown in this frame.
 ///
 /// # Errors
 ///
 /// `Run(NoMemory)` if an allocation failed.
 pub(crate) fn make_form(
     alloc: Global,
-    jobs: &MachineJobs,
+    request: FormRequest,
     origin: Option<u64>,
     frame: Frame,
     given: &Option<Text>,
     unnamed: &str,
     clock: &Clock,
 ) -> Result<Form, Failure>
-    ensures { form_made jobs.now origin frame given.now unnamed.now clock.now result }
+    ensures { form_made request origin frame given.now unnamed.now clock.now result }
 {
-    if jobs.table.is_table(frame.terminal) {
+    if request.table.is_table(frame.terminal) {
         let zone = given_zone(alloc, given, unnamed, clock)?;
         return Ok(Form::Table(TableForm {
             zone,
@@ -70,7 +79,7 @@ pub(crate) fn make_form(
             frame,
         }));
     }
-    let format = make_format(alloc, jobs.format, given, unnamed, clock)?;
+    let format = make_format(alloc, request.format, given, unnamed, clock)?;
     Ok(Form::Lines(format))
 }
 

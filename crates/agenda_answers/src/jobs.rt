@@ -117,9 +117,7 @@ fn make_outcome<R: Threads + Wait + Sync, F: Files>(
 /// # Errors
 ///
 /// `Run(NoMemory)` if an allocation failed, which is no answer.
-pub(crate) fn settled(
-    made: Result<PreparedAnswer, RunFault>,
-) -> Result<Result<PreparedAnswer, RunFault>, Failure>
+pub(crate) fn settled<A>(made: Result<A, RunFault>) -> Result<Result<A, RunFault>, Failure>
     ensures { settles made result }
 {
     match made {

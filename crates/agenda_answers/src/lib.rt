@@ -16,5 +16,5 @@ mod requests;
 
 pub use agenda_table::Frame;
 pub use answers::{answer, answer_arguments, unread_arguments};
-pub use host::Host;
+pub use host::{Host, columns_of};
 pub use jobs::keeping_going_changes_nothing;

@@ -2,34 +2,39 @@
 //!
 //! The answer is made before a byte is written.
 
-ghost use Rattle.std.specs.Prelude.{◌≡◌, false, IfOk, IsTrue, Some, true};
+ghost use Rattle.std.specs.Prelude.{◌≡◌, false, IfOk, IsTrue, Some, option_map, true};
 ghost use Rattle.agenda_answers.specs.Host.{host_of};
-ghost use Rattle.agenda_answers.specs.Machine.{AnswersMachine, directory_if, found_in, in_words};
+ghost use Rattle.agenda_answers.specs.Machine.{AnswersMachine, answers_said, directory_if, files_if, found_in, in_words};
 ghost use Rattle.agenda_answers.specs.Machine.{errors_in, findings_rest, is_root, machine_below, machine_ends, machine_if, machine_of};
-ghost use Rattle.agenda_answers.specs.Machine.{is_stopped, machine_status, machine_zones, naming_limit, outcome_of, rest_of, shows_findings, shows_jobs};
+ghost use Rattle.agenda_answers.specs.Machine.{is_stopped, kept_in, machine_zones, naming_limit, parted, rest_of, shows_findings, shows_jobs};
+ghost use Rattle.agenda_machine.specs.JobFiles.{files_of_jobs};
 ghost use Rattle.agenda_machine.specs.Places.{paths_of};
-ghost use Rattle.agenda_sources.specs.Findings.{is_all_clean, kept_jobs};
 ghost use Rattle.agenda_machine.specs.Root.{root_of};
 
 use crate::answers::end;
-use crate::formats::{make_form, unnamed_zone};
+use crate::formats::{FormRequest, make_form, unnamed_zone};
 use crate::host::Host;
 use crate::jobs::{Outcome, settled};
 use crate::machine_answer::{MachineAnswer, Printout, Site, Skipped, show, status_of};
 use crate::machine_goal::goal_at;
 use agenda_arguments::{MachineJobs, MachineQuestion, MachineRequest};
-use agenda_commands::{Goal, PreparedAnswer, are_warnings, kept_if, prepare_form};
+use agenda_commands::{Form, Goal, PreparedAnswer, RemarkedAnswer, are_warnings, prepare_remarked};
 use agenda_faults::{Failure, RunFault};
 use agenda_inputs::{Files, MOST_READ, MachineFiles, machine_clock, read_zones};
-use agenda_machine::{dir_of, located, paths_of, root_of, sources_of, with_monotonic};
-use agenda_sources::{Found, SourcePaths, Sources, TimeZones, findings_of_sources, zone_names};
+use agenda_machine::{
+    dir_of, files_of_jobs, located, paths_of, root_of, sources_of, with_monotonic,
+};
+use agenda_sources::{
+    Found, Kept, SourcePaths, Sources, TimeZones, findings_of_sources, kept_of_sources, zone_names,
+};
 use plan_clock::Clock;
 use plan_collect::{CollectFault, PlanFault};
 use plan_machine::{Machine, find_machine};
 use plan_rules::{Jobs, Text};
-use plan_streams::Stream;
 use plan_services::default_accuracy;
+use plan_streams::Stream;
 use plan_tree::{Complete, Rooted, Tree, is_directory};
+use plan_write::JobFile;
 use std::alloc::{AllocError, Global};
 use std::sync::Wait;
 use std::thread::Threads;
@@ -237,16 +242,21 @@ fn jobs_answer<'a, R: Threads + Wait + Sync, F: Files, T: Tree>(
     let zones = machine_zones(alloc, files, host.tree, clock.clock, &sources)?;
     let unnamed = unnamed_zone(clock.is_of_file);
     let origin = goal.origin(host.time);
+    let request = FormRequest {
+        format: jobs.format,
+        table: jobs.table,
+    };
     let form = make_form(
         alloc,
-        jobs,
+        request,
         origin,
         host.frame,
         &clock.name,
         unnamed,
         &zones.clock,
     )?;
-    let (skipped, kept) = kept_of(alloc, dir, &machine, &sources, &zones)?;
+    let except = jobs.except.as_slice();
+    let (skipped, kept) = kept_of(alloc, dir, &machine, &sources, &zones, except)?;
     let site = Site {
         dir,
         machine,
@@ -256,11 +266,67 @@ fn jobs_answer<'a, R: Threads + Wait + Sync, F: Files, T: Tree>(
         let printout = Printout::Stopped(skipped);
         return Ok(MachineAnswer { site, printout });
     }
-    let made = prepare_form(rt, alloc, kept, &sources, &zones, &goal, form);
-    let answer = settled(made)?;
-    let answer = in_words(answer, &goal);
-    let printout = Printout::Jobs(outcome_of(alloc, &site.machine, skipped, answer));
+    let (outcome, remark) = planned(rt, alloc, &site, skipped, kept, &goal, form)?;
+    let printout = Printout::Jobs(outcome, remark);
     Ok(MachineAnswer { site, printout })
+}
+
+// Makes the answer for the jobs of a machine that are left, in a form, with what is said about it.
+fn planned<R: Threads + Wait + Sync>(
+    rt: &R,
+    alloc: Global,
+    site: &Site<'_>,
+    skipped: Skipped,
+    kept: Jobs,
+    goal: &Goal,
+    form: Form,
+) -> Result<(Outcome, Option<Text>), Failure>
+    ensures { answers_said site.now.dir.now site.now.machine skipped.paths skipped.errors.items form goal.now kept result }
+{
+    let files = files_if(alloc, site, &kept, &form)?;
+    let made = prepare_remarked(rt, alloc, kept, goal, form, files.as_deref());
+    let made = settled(made)?;
+    let (answer, remark) = parted(made);
+    let outcome = Outcome {
+        unread: SourcePaths::new(alloc),
+        status: status_of(&site.machine, are_warnings(skipped.errors.as_slice())),
+        paths: skipped.paths,
+        errors: skipped.errors,
+        answer: in_words(answer, goal),
+    };
+    Ok((outcome, remark))
+}
+
+// Returns the files of jobs, if an answer in this form has them: its lines in JSON do.
+fn files_if(
+    alloc: Global,
+    site: &Site<'_>,
+    kept: &Jobs,
+    form: &Form,
+) -> Result<Option<Vec<JobFile>>, AllocError>
+    ensures { IfOk result (λ files. option_map (λ files. files.items) files
+        ≡ files_if form.now (files_of_jobs (root_of site.now.dir.now) site.now.machine.sources.items kept.now)) }
+{
+    match form {
+        Form::Lines(format) if format.json => {
+            let sources = site.machine.sources.as_slice();
+            let files = files_of_jobs(alloc, root_of(site.dir), sources, kept)?;
+            Ok(Some(files))
+        }
+        _ => Ok(None),
+    }
+}
+
+// Returns an answer and what is said about it.
+fn parted(
+    made: Result<RemarkedAnswer, RunFault>,
+) -> (Result<PreparedAnswer, RunFault>, Option<Text>)
+    ensures { result ≡ parted made }
+{
+    match made {
+        Ok(made) => (Ok(made.answer), made.remark),
+        Err(fault) => (Err(fault), None),
+    }
 }
 
 // Returns an answer. If it has too many starts for a plan, the error names the limit.
@@ -299,40 +365,21 @@ fn is_stopped(strict: bool, errors: &[Found]) -> bool
     strict && !errors.is_empty()
 }
 
-// Returns the answer for jobs, and what is skipped.
-fn outcome_of(
-    alloc: Global,
-    machine: &Machine,
-    skipped: Skipped,
-    answer: Result<PreparedAnswer, RunFault>,
-) -> Outcome
-    ensures { result ≡ outcome_of skipped.paths skipped.errors.items
-        (machine_status machine.now (is_all_clean skipped.errors.items)) answer }
-{
-    let status = status_of(machine, are_warnings(skipped.errors.as_slice()));
-    Outcome {
-        unread: SourcePaths::new(alloc),
-        paths: skipped.paths,
-        errors: skipped.errors,
-        answer,
-        status,
-    }
-}
-
-// Finds the errors of a machine's sources, and the jobs that are left without them.
+// Finds the errors of a machine's sources, and the jobs that are left without them and without those with these names.
 fn kept_of(
     alloc: Global,
     dir: &str,
     machine: &Machine,
     sources: &Sources,
     zones: &TimeZones,
-) -> Result<(Skipped, Option<Jobs>), AllocError>
+    except: &[Text],
+) -> Result<(Skipped, Jobs), AllocError>
     ensures paths { IfOk result (λ kept. kept.0.paths ≡ paths_of false (root_of dir.now) machine.now.sources.items) }
     ensures errors { IfOk result (λ kept. kept.0.errors.items ≡ errors_in machine.now zones.now sources.now) }
-    ensures jobs { IfOk result (λ kept. kept.1 ≡ Some (kept_jobs zones.now sources.now)) }
+    ensures jobs { IfOk result (λ kept. kept.1 ≡ kept_in except.now zones.now sources.now) }
 {
-    let (errors, kept) = kept_if(alloc, true, sources, zones)?;
+    let Kept { errors, jobs } = kept_of_sources(alloc, sources, zones)?;
     let errors = located(machine.sources.as_slice(), errors)?;
     let paths = paths_of(alloc, root_of(dir), machine.sources.as_slice(), false)?;
-    Ok((Skipped { paths, errors }, kept))
+    Ok((Skipped { paths, errors }, jobs.without(except)))
 }

@@ -4,7 +4,7 @@
 
 ghost use Rattle.std.specs.Prelude.{◌≡◌, ◌≢◌, false, IsTrue, Ok, OnOk, true};
 ghost use Rattle.agenda_answers.specs.Answer.{HoldsAfter};
-ghost use Rattle.agenda_answers.specs.Machine.{ReportsFirst, Shows, ShowsRest, has_reports, machine_reports, machine_status, rest_of};
+ghost use Rattle.agenda_answers.specs.Machine.{ReportsFirst, Says, Shows, ShowsRest, has_reports, machine_reports, machine_status, rest_of};
 ghost use Rattle.agenda_findings.specs.Findings.{check_text};
 ghost use Rattle.agenda_machine.specs.Listing.{sources_text};
 ghost use Rattle.agenda_machine.specs.Root.{root_of};
@@ -20,7 +20,8 @@ use agenda_findings::{write_findings, write_skipped};
 use agenda_machine::{Reports, is_incomplete, root_of, write_reports, write_sources};
 use agenda_sources::{Found, SourcePath, SourcePaths};
 use plan_machine::Machine;
-use plan_streams::{Stream, WriteFault};
+use plan_rules::Text;
+use plan_streams::{Stream, TextWriter, WriteFault};
 use std::marker::Model;
 use std::slice;
 
@@ -41,8 +42,8 @@ pub(crate) enum Printout {
         /// Whether each line is a JSON object.
         json: bool,
     },
-    /// What is made of their jobs.
-    Jobs(Outcome),
+    /// What is made of their jobs, and what is said about it.
+    Jobs(Outcome, Option<Text>),
     /// The errors of their files, of which the first stops the answer.
     Stopped(Skipped),
 }
@@ -135,9 +136,39 @@ fn show_rest<O: Stream, E: Stream>(
             let done = print_findings(site, paths.as_slice(), found.as_slice(), json, out);
             end(done, &[], err)
         }
-        Printout::Jobs(outcome) => report(outcome, &[], out, err),
+        Printout::Jobs(outcome, remark) => {
+            let status = report(outcome, &[], out, err);
+            say(&remark, status, err)
+        }
         Printout::Stopped(skipped) => report_first(&skipped, err),
     }
+}
+
+// Writes what is said about an answer after the answer, which ended with this exit status, and returns the exit status. If
+// the answer failed, nothing is said.
+fn say<S: Stream>(remark: &Option<Text>, status: u8, err: &mut S) -> u8
+    ensures says { Says remark.now status result
+        (record { takes_all = S.takes_all; old = S.holds err.old; new = S.holds err.new }) }
+    ensures failed { result ≡ 0 → status ≡ 0 }
+    ensures flushed { S.takes_all ≡ true → IsTrue (S.is_flushed err.old) → IsTrue (S.is_flushed err.new) }
+{
+    match remark {
+        Some(line) if status != FAILED => match put_text(line.as_str(), err) {
+            Ok(()) => status,
+            Err(_) => FAILED,
+        },
+        _ => status,
+    }
+}
+
+// Writes a text.
+fn put_text<S: Stream>(text: &str, out: &mut S) -> Result<(), WriteFault>
+    ensures text { Puts S.takes_all result (S.holds out.old) (S.holds out.new) text.now }
+    ensures flushed { OnOk result (IsTrue (S.is_flushed out.new)) }
+{
+    let mut lines = TextWriter::new(out);
+    lines.put(text.as_bytes());
+    lines.finish()
 }
 
 // Reports the first error, which stops the answer, and returns the exit status.

@@ -3,14 +3,14 @@
 ghost use Rattle.std.specs.Prelude.{◌≡◌, ◌≤◌, IfOk};
 ghost use Rattle.plan_sets.specs.Limits.{end_second};
 ghost use Rattle.plan_times.specs.Forms.{length_of};
-ghost use Rattle.agenda_answers.specs.MachineGoal.{after_at, goal_at, least_of, present, since_at, span_at, until_at};
+ghost use Rattle.agenda_answers.specs.MachineGoal.{after_at, goal_at, least_of, number_in, present, since_at, sizes_in, span_at, until_at};
 
 use agenda_arguments::{MachineGoal, MachineJobs, SpanRequest};
 use agenda_commands::{Goal, Planning};
-use agenda_faults::{Failure, MachineFault, TimeOption};
+use agenda_faults::{Failure, MachineFault, NumberOption, TimeOption};
 use agenda_inputs::copy_of;
 use plan_clock::Clock;
-use plan_collect::Span;
+use plan_collect::{Sizes, Span};
 use plan_rules::Text;
 use plan_sets::END_SECOND;
 use plan_times::{length, since_time, until_time};
@@ -23,7 +23,8 @@ use std::alloc::Global;
 /// # Errors
 ///
 /// `Machine(Clock)` if the time is after the planner's years. Else `Machine(Time)` if a text isn't a time, then
-/// `Machine(Backwards)` if a span ends before its start, and then `Machine(Length)` if a text isn't a length.
+/// `Machine(Backwards)` if a span ends before its start, then `Machine(Length)` if a text isn't a length, and then
+/// `Machine(Number)` if a size of a plan is out of its range.
 pub(crate) fn goal_at(
     alloc: Global,
     time: u64,
@@ -41,7 +42,7 @@ pub(crate) fn goal_at(
         }
         MachineGoal::Plan { span, sizes } => {
             let span = span_at(alloc, span, now, clock)?;
-            let sizes = *sizes;
+            let sizes = sizes_in(*sizes)?;
             Ok(Goal::Plan(Planning {
                 span,
                 sizes,
@@ -50,8 +51,8 @@ pub(crate) fn goal_at(
         }
         MachineGoal::Quiet { span, sizes, least } => {
             let span = span_at(alloc, span, now, clock)?;
-            let sizes = *sizes;
             let least = least_of(alloc, least)?;
+            let sizes = sizes_in(*sizes)?;
             let planning = Planning {
                 span,
                 sizes,
@@ -155,5 +156,30 @@ fn least_of(alloc: Global, text: &Text) -> Result<u32, Failure>
     match length(text.as_str()) {
         Some(least) => Ok(least),
         None => Err(Failure::Machine(MachineFault::Length(copy_of(alloc, text.as_str())?))),
+    }
+}
+
+// Returns the sizes of a plan, if each is in its range.
+fn sizes_in(sizes: Sizes) -> Result<Sizes, Failure>
+    ensures { sizes_in sizes result }
+{
+    number_in(NumberOption::Planners, sizes.planners as u64)?;
+    number_in(NumberOption::Room, sizes.room as u64)?;
+    number_in(NumberOption::Limit, sizes.limit)?;
+    Ok(sizes)
+}
+
+/// Returns the number of an option, if it is in its range.
+///
+/// # Errors
+///
+/// `Machine(Number)` if it isn't.
+pub(crate) fn number_in(option: NumberOption, number: u64) -> Result<u64, Failure>
+    ensures { number_in option number result }
+{
+    if number >= 1 && number <= option.most() {
+        Ok(number)
+    } else {
+        Err(Failure::Machine(MachineFault::Number(option, number)))
     }
 }

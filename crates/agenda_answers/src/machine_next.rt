@@ -5,20 +5,19 @@ ghost use Rattle.agenda_answers.specs.Host.{host_of};
 ghost use Rattle.agenda_answers.specs.MachineNext.{AnswersNext, ExitsInWords, ShowsStarts, starts_at};
 
 use crate::answers::end;
-use crate::formats::{make_format, unnamed_zone};
+use crate::formats::{FormRequest, make_form, unnamed_zone};
 use crate::host::Host;
-use crate::machine_goal::after_at;
+use crate::machine_goal::{after_at, number_in};
 use agenda_arguments::{MachineNext, ZonesRequest};
-use agenda_commands::run_next;
+use agenda_commands::{Form, origin_at, run_next_form};
 use agenda_faults::status::{DONE, FAILED, REJECTED};
-use agenda_faults::{Failure, RunFault};
+use agenda_faults::{Failure, NumberOption, RunFault};
 use agenda_findings::rule_fault_line;
 use agenda_inputs::{Files, MachineFiles, machine_clock, zones_of_rule};
 use agenda_machine::{Reports, write_reports};
 use agenda_sources::{Asked, TimeZones};
 use plan_streams::Stream;
 use plan_tree::{Rooted, Tree};
-use plan_write::Format;
 use std::alloc::Global;
 
 // What the starts of a rule are listed by.
@@ -29,7 +28,7 @@ struct NextStarts {
     // The starts are later than this, in seconds since 1970-01-01T00:00:00Z.
     after: u64,
     // How they are written.
-    format: Format,
+    form: Form,
     // Whether the zone of the machine is unknown.
     is_zone_unknown: bool,
 }
@@ -64,7 +63,7 @@ pub(crate) fn answer_machine_next<F: Files, T: Tree, O: Stream, E: Stream>(
     }
 }
 
-// Reads the zones and the time of a question about a machine with this tree.
+// Reads the zones, the time and the number of starts of a question about a machine with this tree.
 fn starts_at<F: Files, T: Tree>(
     alloc: Global,
     request: &MachineNext,
@@ -75,6 +74,7 @@ fn starts_at<F: Files, T: Tree>(
 {
     let clock = machine_clock(alloc, files, host.tree, "", &request.zone)?;
     let after = after_at(alloc, host.time, &clock.clock, &request.after)?;
+    number_in(NumberOption::Count, u64::from(request.count))?;
     let unnamed = unnamed_zone(clock.is_of_file);
     let zone = ZonesRequest {
         zone: clock.name,
@@ -85,11 +85,24 @@ fn starts_at<F: Files, T: Tree>(
         running: files,
     };
     let zones = zones_of_rule(alloc, &mut files, &zone, clock.clock, &request.rule)?;
-    let format = make_format(alloc, request.format, &zone.zone, unnamed, &zones.clock)?;
+    let origin = origin_at(after, host.time);
+    let form = FormRequest {
+        format: request.format,
+        table: request.table,
+    };
+    let form = make_form(
+        alloc,
+        form,
+        origin,
+        host.frame,
+        &zone.zone,
+        unnamed,
+        &zones.clock,
+    )?;
     Ok(NextStarts {
         zones,
         after,
-        format,
+        form,
         is_zone_unknown: clock.is_unknown,
     })
 }
@@ -120,13 +133,13 @@ fn show_starts<O: Stream, E: Stream>(
         return FAILED;
     }
     let (rule, count) = (&request.rule, u64::from(request.count));
-    match run_next(
+    match run_next_form(
         alloc,
         rule,
         &starts.zones,
         starts.after,
         count,
-        &starts.format,
+        &starts.form,
         out,
     ) {
         Ok(()) => DONE,

@@ -1,7 +1,7 @@
 -- The hint of usage errors.
 -- For `hint_between`: the place where std finds a text is the place where `cut_at` cuts it. Std says that the text is at no earlier
 -- place, or at none; the walk goes by `cut_more` of plan_texts. For `read_words`: errors of arguments other than a machine's.
-use Rattle.std.proofs.Common.{◌≡◌, ◌+◌, ◌<◌, ◌≤◌, ◌∙◌, ℕ, zero, suc, true, false, nat_eq, List, [], Option, Some, None, Result, Ok, Err, length, take, drop, refl, ap, sym, arith, inl, inr, length-append, length-drop}
+use Rattle.std.proofs.Common.{◌≡◌, ◌+◌, ◌<◌, ◌≤◌, ◌∙◌, ℕ, zero, suc, false, nat_eq, List, [], Option, Some, None, Result, Ok, Err, length, take, drop, refl, ap, sym, arith, inl, inr, length-append, length-drop}
 use Rattle.std.proofs.lemmas.List.{drop-drop}
 use Rattle.std.proofs.lemmas.Bool.{cases_Bool}
 use Rattle.std.proofs.lemmas.Bool.Decides.{Decides-eqb}

@@ -105,11 +105,15 @@ abbrev pub all_given : Option (List ℕ) → List (List ℕ)
 all_given None = []
 all_given (Some text) = text ∷ []
 
+-- all values of an option, in the order of the arguments (agenda)
+abbrev pub all_values : (name : List ℕ) → List Row → List (List ℕ)
+all_values name rows = unwrap_or (all_of name rows) []
+
 -- the paths of the sources of a kind: all of them, in the order of the arguments, or at most one for a kind
 -- with a single source (agenda)
 abbrev pub paths_in : SourceKind → List Row → List (List ℕ)
 paths_in kind rows =
-    if is_many kind then unwrap_or (all_of (option_of kind) rows) [] else all_given (first_of (option_of kind) rows)
+    if is_many kind then all_values (option_of kind) rows else all_given (first_of (option_of kind) rows)
 
 -- the paths of all sources, in the order of their kinds (agenda)
 abbrev pub sources_in : List Row → List SourcePath
@@ -229,6 +233,7 @@ asked_of_jobs rows delays goal = do
   asked_of_machine rows (question.Jobs (record {
     goal = goal;
     zone = zone;
+    except = all_values (codes "except") rows;
     delays = delays;
     strict = is_given (codes "strict") rows;
     format = machine_format_in rows;
@@ -270,12 +275,14 @@ asked_by_machine_next rows = do
   count ← wanted (number_in (one_of (codes "count") rows))
   after ← wanted (first_of (codes "after") rows)
   zone ← machine_zone (zone_in rows) (is_given (codes "utc") rows)
+  table ← table_in (is_given (codes "table") rows) (is_given (codes "text") rows) (is_given (codes "json") rows)
   Ok (MachineNext (record {
     rule = asked_in text;
     after = after;
     count = count;
     zone = zone;
     format = machine_format_in rows;
+    table = table;
   }))
 
 -- what the given question about a machine requests, by its name and its values (agenda)

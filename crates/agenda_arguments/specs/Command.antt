@@ -7,7 +7,7 @@ use Rattle.clap.specs.declared.builder.value_parser.ValueParser.TheVariants as p
 use Rattle.plan_rules.specs.declared.SourceKind.{SourceKind}
 use Rattle.plan_rules.specs.declared.SourceKind.TheVariants.{Timer}
 use Rattle.agenda_arguments.specs.declared.command.CommandOption.{CommandOption}
-use Rattle.agenda_arguments.specs.declared.command.CommandOption.TheVariants.{Flag, Text, Preset, Moment, Number, Tuning, Argument}
+use Rattle.agenda_arguments.specs.declared.command.CommandOption.TheVariants.{Flag, Text, Preset, Repeated, Moment, Number, Tuning, Argument}
 use Rattle.agenda_arguments.specs.declared.command.subcommands.Subcommand.{Subcommand}
 use Rattle.agenda_arguments.specs.declared.command.subcommands.Subcommand.TheVariants as each
 use Rattle.plan_rules.specs.SourceKind.{is_many, kinds, option_of}
@@ -47,11 +47,16 @@ number_option name default = record (option_named name) {
 abbrev pub required_argument : List ℕ → Rule
 required_argument name = record (argument_named name) { required = true }
 
+-- an option that may be given any number of times (agenda)
+abbrev pub repeated_option : List ℕ → Rule
+repeated_option name = record (option_named name) { action = Some Append }
+
 -- the rule of an option or argument that a subcommand lists (agenda)
 abbrev pub rule_for : CommandOption → Rule
 rule_for (Flag name help) = flag_option name.now
 rule_for (Text name value help) = option_named name.now
 rule_for (Preset name value default help) = preset_option name.now default.now
+rule_for (Repeated name value help) = repeated_option name.now
 rule_for (Moment name help) = moment_option name.now
 rule_for (Number name default help) = number_option name.now default.now
 rule_for (Tuning name default help) = number_option name.now default.now
@@ -162,13 +167,17 @@ machine_sources = with_each (with_machine (new_app (codes "sources"))) (flag_opt
 abbrev pub machine_zone_rules : List Rule
 machine_zone_rules = option_named (codes "zone") ∷ flag_option (codes "utc") ∷ []
 
+-- the jobs that an answer about a machine leaves out: `[--except JOB ..]` (agenda)
+abbrev pub except_option : Rule
+except_option = repeated_option (codes "except")
+
 -- the sizes of a plan of a machine: `[--limit N] [--planners N] [--room N]` (agenda)
 abbrev pub machine_size_rules : List Rule
 machine_size_rules = number_option (codes "limit") (codes "1000000") ∷ number_option (codes "planners") (codes "2")
     ∷ number_option (codes "room") (codes "16") ∷ []
 
--- the form of the answer to a question about the jobs of a machine: `[--table or --text or --json]`; that at most one is present
--- is checked after clap's parse (agenda)
+-- the form of the answer to a question for starts or gaps: `[--table or --text or --json]`; that at most one is present is checked
+-- after clap's parse (agenda)
 abbrev pub machine_form_rules : List Rule
 machine_form_rules = flag_option (codes "table") ∷ flag_option (codes "text") ∷ flag_option (codes "json") ∷ []
 
@@ -176,11 +185,11 @@ machine_form_rules = flag_option (codes "table") ∷ flag_option (codes "text") 
 unfoldable pub machine_check : App
 machine_check = with_each (with_machine (new_app (codes "check"))) (machine_zone_rules ++ flag_option (codes "json") ∷ [])
 
--- `machine upcoming` with the machine, `[--after TIME]`, the zone, `[--delays]`, `[--strict]` and the form (agenda)
+-- `machine upcoming` with the machine, `[--after TIME]`, the zone, `[--except JOB ..]`, `[--delays]`, `[--strict]` and the form (agenda)
 unfoldable pub machine_upcoming : App
 machine_upcoming = with_each (with_machine (new_app (codes "upcoming")))
-    (preset_option (codes "after") (codes "now") ∷ machine_zone_rules ++ flag_option (codes "delays") ∷ flag_option (codes "strict")
-    ∷ machine_form_rules)
+    (preset_option (codes "after") (codes "now") ∷ machine_zone_rules ++ except_option ∷ flag_option (codes "delays")
+    ∷ flag_option (codes "strict") ∷ machine_form_rules)
 
 -- a command with what names a machine and with the span of a plan added: `[--since TIME] [--until TIME]`, from now on for a day if
 -- they aren't given; `--upto` is another name of `--until` (agenda)
@@ -188,22 +197,23 @@ unfoldable pub with_machine_span : App → App
 with_machine_span app = with_each (with_machine app)
     (preset_option (codes "since") (codes "now") ∷ with_alias (preset_option (codes "until") (codes "+24h")) (codes "upto") ∷ [])
 
--- `machine plan` with the machine, the span, the zone, `[--delays]`, `[--strict]`, the form and the sizes (agenda)
+-- `machine plan` with the machine, the span, the zone, `[--except JOB ..]`, `[--delays]`, `[--strict]`, the form and the sizes (agenda)
 unfoldable pub machine_plan : App
 machine_plan = with_each (with_machine_span (new_app (codes "plan")))
-    (machine_zone_rules ++ flag_option (codes "delays") ∷ flag_option (codes "strict")
+    (machine_zone_rules ++ except_option ∷ flag_option (codes "delays") ∷ flag_option (codes "strict")
     ∷ machine_form_rules ++ machine_size_rules)
 
--- `machine quiet` with the machine, the span, `[--least LENGTH]`, the zone, `[--nominal]`, `[--strict]`, the form and the sizes (agenda)
+-- `machine quiet` with the machine, the span, `[--least LENGTH]`, the zone, `[--except JOB ..]`, `[--nominal]`, `[--strict]`, the form and
+-- the sizes (agenda)
 unfoldable pub machine_quiet : App
 machine_quiet = with_each (with_machine_span (new_app (codes "quiet")))
-    (preset_option (codes "least") (codes "30min") ∷ machine_zone_rules ++ flag_option (codes "nominal") ∷ flag_option (codes "strict")
-    ∷ machine_form_rules ++ machine_size_rules)
+    (preset_option (codes "least") (codes "30min") ∷ machine_zone_rules ++ except_option ∷ flag_option (codes "nominal")
+    ∷ flag_option (codes "strict") ∷ machine_form_rules ++ machine_size_rules)
 
--- `machine next RULE` with `[--after TIME] [--count N]`, the zone and `[--json]` (agenda)
+-- `machine next RULE` with `[--after TIME] [--count N]`, the zone and the form (agenda)
 unfoldable pub machine_next : App
 machine_next = subcommand_with (codes "next") (required_argument (codes "rule") ∷ preset_option (codes "after") (codes "now")
-    ∷ number_option (codes "count") (codes "5") ∷ machine_zone_rules ++ flag_option (codes "json") ∷ [])
+    ∷ number_option (codes "count") (codes "5") ∷ machine_zone_rules ++ machine_form_rules)
 
 -- the command line of a subcommand (agenda)
 abbrev pub app_for : Subcommand → App

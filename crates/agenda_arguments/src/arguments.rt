@@ -1,5 +1,5 @@
 //! Reads the arguments of the command line.
-ghost use Rattle.std.specs.Prelude.{◌≡◌, Err, IfOk, Some, codes, map, string_bytes};
+ghost use Rattle.std.specs.Prelude.{◌≡◌, Err, IfOk, codes, map, string_bytes};
 ghost use Rattle.clap.specs.Words.{first_of, found_of, kind_of, rows_of, subcommand_rows_of};
 ghost use Rattle.agenda_arguments.specs.Arguments.ArgumentsFault.{is_usage};
 ghost use Rattle.agenda_arguments.specs.Arguments.{Follows, Gives, IsAnswerTo, are_of_machine, asked_by, asked_by_agenda, asked_by_check};
@@ -68,16 +68,9 @@ fn asked_by_agenda(alloc: Global, words: &[String]) -> Result<Ask, UsageFault>
 fn asked_by_subcommand(alloc: Global, matches: &ArgMatches<'_>) -> Result<Ask, UsageFault>
     ensures { Follows result (asked_by_subcommand (subcommand_rows_of matches.now)) }
 {
-    match matches.subcommand() {
-        Some((name, given)) => asked_by_name(alloc, name, given),
-        None => no_subcommand(alloc),
-    }
-}
-
-// Returns what the subcommand with this name requests.
-fn asked_by_name(alloc: Global, name: &str, given: &ArgMatches<'_>) -> Result<Ask, UsageFault>
-    ensures { Follows result (asked_by_subcommand (Some (name.now, rows_of (found_of given.now)))) }
-{
+    let Some((name, given)) = matches.subcommand() else {
+        return no_subcommand(alloc);
+    };
     match name {
         "next" => asked_by_next(alloc, given),
         "plan" => asked_by_plan(alloc, given),

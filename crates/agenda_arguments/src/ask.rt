@@ -3,6 +3,7 @@
 ghost use Rattle.std.specs.Prelude.{◌≡◌};
 ghost use Rattle.agenda_arguments.specs.Tables.{is_table};
 
+use crate::names::JobNames;
 use agenda_codes::Code;
 use agenda_sources::{Asked, SourcePaths};
 use plan_collect::Sizes;
@@ -137,6 +138,8 @@ pub struct MachineJobs {
     pub goal: MachineGoal,
     /// The text of the time zone of the rules. It is that of the machine if this is missing.
     pub zone: Option<Text>,
+    /// The names of jobs that are left out of the answer, as it prints them.
+    pub except: JobNames,
     /// Whether the delays of timers count, so that a start may happen later than planned.
     pub delays: bool,
     /// Whether an error in a file stops the answer. If it doesn't, errors are skipped and reported.
@@ -177,8 +180,10 @@ pub struct MachineNext {
     pub count: u32,
     /// The text of the time zone of the rule. It is that of the machine if this is missing.
     pub zone: Option<Text>,
-    /// How the answer is written.
+    /// How the answer is written, unless it is a table.
     pub format: FormatRequest,
+    /// Whether it is a table.
+    pub table: TableRequest,
 }
 
 /// What is asked about a machine.

@@ -1,10 +1,10 @@
 //! Describes the command line to `clap`.
 ghost use Rattle.std.specs.Prelude.{◌≡◌, [], ◌∷◌, IfOk, false, map};
-ghost use Rattle.clap.specs.Words.{app_of, items_of, new_app, rule_of, with_rule, with_subcommand};
+ghost use Rattle.clap.specs.Words.{app_of, items_of, new_app, rule_of, with_rule};
 ghost use Rattle.clap.specs.declared.builder.command.Command.TheViews.{out-Command};
-ghost use Rattle.agenda_arguments.specs.Command.{agenda, agenda_alone, app_for, argument_named, check, code_argument, explain};
-ghost use Rattle.agenda_arguments.specs.Command.{flag_option, machine_listed, moment_option, next, number_option, option_named, path_rule};
-ghost use Rattle.agenda_arguments.specs.Command.{plan, preset_option, quiet, rule_for, source_rule, steps, upcoming, with_alias, with_each};
+ghost use Rattle.agenda_arguments.specs.Command.{agenda, agenda_alone, argument_named, check, explain};
+ghost use Rattle.agenda_arguments.specs.Command.{flag_option, next, number_option, option_named, path_rule};
+ghost use Rattle.agenda_arguments.specs.Command.{plan, quiet, rule_for, source_rule, steps, upcoming, with_alias, with_each};
 ghost use Rattle.agenda_arguments.specs.Command.{with_jobs, with_sources, with_span, with_subcommands};
 
 mod help;
@@ -30,6 +30,8 @@ enum CommandOption<'a> {
     Text(&'a str, &'a str, &'a str),
     // The same with a default, which is the third text.
     Preset(&'a str, &'a str, &'a str, &'a str),
+    // The same without a default, which may be given any number of times.
+    Repeated(&'a str, &'a str, &'a str),
     // An option for a timestamp, which is required.
     Moment(&'a str, &'a str),
     // An option for a whole number of 32 bits. The second text is its default.
@@ -68,9 +70,12 @@ impl<'a> CommandOption<'a> {
             CommandOption::Flag(name, help) => flag_option(alloc, name, help),
             CommandOption::Text(name, value, help) => text_option(alloc, name, value, help),
             CommandOption::Preset(name, value, default, help) => {
-                preset_option(alloc, name, value, default, help)
+                text_option(alloc, name, value, help).default_value(default)
             }
-            CommandOption::Moment(name, help) => moment_option(alloc, name, help),
+            CommandOption::Repeated(name, value, help) => {
+                text_option(alloc, name, value, help).action(ArgAction::Append)
+            }
+            CommandOption::Moment(name, help) => text_option(alloc, name, "T", help).required(true),
             CommandOption::Number(name, default, help) => number_option(alloc, name, default, help),
             CommandOption::Tuning(name, default, help) => {
                 number_option(alloc, name, default, help).help_heading(help::TUNING)
@@ -91,7 +96,17 @@ impl<'a> CommandOption<'a> {
 pub(crate) fn agenda_command<'a>(alloc: Global) -> Result<Command<'a>, AllocError>
     ensures { IfOk result (λ command. app_of command ≡ agenda) }
 {
-    with_subcommands(alloc, agenda_alone(alloc)?, &Subcommand::of_agenda())
+    let subcommands = [
+        Subcommand::Next,
+        Subcommand::Plan,
+        Subcommand::Upcoming,
+        Subcommand::Quiet,
+        Subcommand::Check,
+        Subcommand::Machine,
+        Subcommand::Steps,
+        Subcommand::Explain,
+    ];
+    with_subcommands(alloc, agenda_alone(alloc)?, &subcommands)
 }
 
 // Returns the command line without its subcommands.
@@ -188,15 +203,6 @@ fn check_command<'a>(alloc: Global) -> Result<Command<'a>, AllocError>
     with_sources(alloc, command)
 }
 
-// Returns `machine` as help lists it. Arguments that begin with it are read by `machine_command`.
-#[tactic(auto, unfolding(crate::specs::Command::machine_listed))]
-fn machine_listed<'a>(alloc: Global) -> Command<'a>
-    ensures app { app_of result ≡ machine_listed }
-    ensures local { (out-Command result).has_globals ≡ false }
-{
-    new_subcommand(alloc, "machine", help::MACHINE, help::AFTER_MACHINE)
-}
-
 #[tactic(auto, unfolding(crate::specs::Command::steps))]
 fn steps_command<'a>(alloc: Global) -> Result<Command<'a>, AllocError>
     ensures app { IfOk result (λ command. app_of command ≡ steps) }
@@ -216,7 +222,7 @@ fn explain_command<'a>(alloc: Global) -> Result<Command<'a>, AllocError>
     ensures local { IfOk result (λ command. (out-Command command).has_globals ≡ false) }
 {
     let command = new_subcommand(alloc, "explain", help::EXPLAIN, help::AFTER_EXPLAIN);
-    with_argument(command, code_argument(alloc))
+    with_argument(command, argument(alloc, "code", "CODE", help::CODE))
 }
 
 // Returns a subcommand without arguments, with the first and the last text of its help.
@@ -244,20 +250,10 @@ fn with_subcommands<'a>(
 {
     let mut command = command;
     for subcommand in subcommands {
-        command = with_subcommand(alloc, command, *subcommand)?;
+        let added = subcommand.command(alloc)?;
+        command = command.subcommand(added)?;
     }
     Ok(command)
-}
-
-// Adds a subcommand to the command.
-fn with_subcommand<'a>(
-    alloc: Global,
-    command: Command<'a>,
-    subcommand: Subcommand,
-) -> Result<Command<'a>, AllocError>
-    ensures { IfOk result (λ new. app_of new ≡ with_subcommand (app_of command.entry) (app_for subcommand).top) }
-{
-    command.subcommand(subcommand.command(alloc)?)
 }
 
 // Adds what `plan`, `upcoming` and `quiet` have in common. What the help of `--delays` says depends on the command.
@@ -298,7 +294,8 @@ fn with_span<'a>(alloc: Global, command: Command<'a>) -> Result<Command<'a>, All
         command,
         &[CommandOption::Moment("since", help::SINCE)],
     )?;
-    let upto = with_alias(moment_option(alloc, "upto", help::UPTO), "until")?;
+    let upto = CommandOption::Moment("upto", help::UPTO).to_clap(alloc);
+    let upto = with_alias(upto, "until")?;
     with_argument(command, upto)
 }
 
@@ -343,14 +340,6 @@ fn with_argument<'a>(command: Command<'a>, argument: Arg<'a>) -> Result<Command<
     command.arg(argument)
 }
 
-// Returns the argument `CODE`, which is optional.
-fn code_argument<'a>(alloc: Global) -> Arg<'a>
-    ensures rule { rule_of result ≡ code_argument }
-    ensures local { result.global ≡ false }
-{
-    argument(alloc, "code", "CODE", help::CODE)
-}
-
 // Returns the option or argument for sources of a kind: `--crontab F`, `--system-crontab F`, or, any number
 // of times, `--cron-d F`, `--spool F` or `TIMER`.
 fn source_argument<'a>(alloc: Global, kind: SourceKind) -> Arg<'a>
@@ -389,14 +378,6 @@ fn source_help(kind: SourceKind) -> &'static str {
     }
 }
 
-// Returns the option `--name T`, a timestamp, which is required.
-fn moment_option<'a>(alloc: Global, name: &'a str, help: &'a str) -> Arg<'a>
-    ensures rule { rule_of result ≡ moment_option name.entry.now }
-    ensures local { result.global ≡ false }
-{
-    text_option(alloc, name, "T", help).required(true)
-}
-
 // Gives the option another name, which its help shows.
 fn with_alias<'a>(option: Arg<'a>, name: &'a str) -> Result<Arg<'a>, AllocError>
     ensures rule { IfOk result (λ new. rule_of new ≡ with_alias (rule_of option.entry) name.entry.now) }
@@ -424,20 +405,6 @@ fn number_option<'a>(alloc: Global, name: &'a str, default: &'a str, help: &'a s
     text_option(alloc, name, "N", help)
         .value_parser(value_parser!(u32))
         .default_value(default)
-}
-
-// Returns the option `--name VALUE`, a text, with a default.
-fn preset_option<'a>(
-    alloc: Global,
-    name: &'a str,
-    value: &'a str,
-    default: &'a str,
-    help: &'a str,
-) -> Arg<'a>
-    ensures rule { rule_of result ≡ preset_option name.entry.now default.entry.now }
-    ensures local { result.global ≡ false }
-{
-    text_option(alloc, name, value, help).default_value(default)
 }
 
 // Returns the option `--name VALUE`, which is optional.

@@ -12,6 +12,7 @@ mod codes;
 mod command;
 mod hint;
 mod machine;
+mod names;
 mod paths;
 mod values;
 
@@ -20,3 +21,4 @@ pub use ask::{
     Ask, FormatRequest, JobsRequest, MachineGoal, MachineJobs, MachineNext, MachineQuestion,
     MachineRequest, NextRequest, PlanRequest, SpanRequest, TableRequest, UsageFault, ZonesRequest,
 };
+pub use names::JobNames;

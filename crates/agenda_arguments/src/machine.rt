@@ -1,5 +1,5 @@
 //! What the arguments of `agenda machine` request.
-ghost use Rattle.std.specs.Prelude.{◌≡◌, ◌++◌, ◌∷◌, IfOk, OnOk, Some, codes, drop, map, string_bytes};
+ghost use Rattle.std.specs.Prelude.{◌≡◌, ◌++◌, ◌∷◌, IfOk, OnOk, codes, drop, map, string_bytes};
 ghost use Rattle.clap.specs.Words.{first_of, found_of, rows_of, subcommand_rows_of};
 ghost use Rattle.agenda_arguments.specs.Arguments.{Follows, Gives, asked_about_machine, asked_by_machine, asked_by_machine_check, asked_by_machine_next, asked_by_machine_plan};
 ghost use Rattle.agenda_arguments.specs.Arguments.{asked_by_machine_quiet, asked_by_machine_sources, asked_by_machine_upcoming};
@@ -13,6 +13,7 @@ use crate::ask::{
 };
 use crate::command::machine_command;
 use crate::hint::{time_options, with_hint};
+use crate::names::names_of;
 use crate::values::{is_given, number_argument, text, text_of, value_of};
 use agenda_sources::Asked;
 use clap::ArgMatches;
@@ -125,16 +126,9 @@ fn asked_by_machine(alloc: Global, words: &[String]) -> Result<Ask, UsageFault>
 fn asked_by_question(alloc: Global, matches: &ArgMatches<'_>) -> Result<Ask, UsageFault>
     ensures { Follows result (asked_by_question (subcommand_rows_of matches.now)) }
 {
-    match matches.subcommand() {
-        Some((name, given)) => asked_by_name(alloc, name, given),
-        None => no_subcommand(alloc),
-    }
-}
-
-// Returns what the question with this name requests.
-fn asked_by_name(alloc: Global, name: &str, given: &ArgMatches<'_>) -> Result<Ask, UsageFault>
-    ensures { Follows result (asked_by_question (Some (name.now, rows_of (found_of given.now)))) }
-{
+    let Some((name, given)) = matches.subcommand() else {
+        return no_subcommand(alloc);
+    };
     match name {
         "upcoming" => asked_by_machine_upcoming(alloc, given),
         "plan" => asked_by_machine_plan(alloc, given),
@@ -200,6 +194,7 @@ fn asked_by_machine_next(alloc: Global, given: &ArgMatches<'_>) -> Result<Ask, U
     let count = number_argument(alloc, given, "count")?;
     let after = text_of(alloc, given, "after")?;
     let zone = machine_zone(alloc, given)?;
+    let table = table_of(alloc, given)?;
     let rule = Asked::of_text(alloc, text)?;
     let format = format_of(given);
     Ok(Ask::MachineNext(MachineNext {
@@ -208,6 +203,7 @@ fn asked_by_machine_next(alloc: Global, given: &ArgMatches<'_>) -> Result<Ask, U
         count,
         zone,
         format,
+        table,
     }))
 }
 
@@ -230,12 +226,14 @@ fn asked_of_jobs(
     ensures { Follows result (asked_of_jobs (rows_of (found_of given.now)) delays goal) }
 {
     let zone = machine_zone(alloc, given)?;
+    let except = names_of(alloc, given, "except")?;
     let table = table_of(alloc, given)?;
     let strict = is_given(given, "strict");
     let format = format_of(given);
     let jobs = MachineJobs {
         goal,
         zone,
+        except,
         delays,
         strict,
         format,

@@ -1,11 +1,10 @@
 //! The paths of the sources that the arguments name.
-ghost use Rattle.std.specs.Prelude.{◌≡◌, ◌++◌, ◌∷◌, [], IfOk, OnOk, map, unwrap_or};
+ghost use Rattle.std.specs.Prelude.{◌≡◌, ◌++◌, ◌∷◌, [], IfOk, OnOk, map};
 ghost use Rattle.std.specs.List.{flat_map};
-ghost use Rattle.clap.specs.Words.{all_of, first_of, found_of, rows_of};
-ghost use Rattle.plan_rules.specs.SourceKind.{option_of};
-ghost use Rattle.agenda_arguments.specs.Arguments.{all_given, path_of, paths_in, sources_in};
+ghost use Rattle.clap.specs.Words.{found_of, rows_of};
+ghost use Rattle.agenda_arguments.specs.Arguments.{path_of, paths_in, sources_in};
 
-use crate::values::text;
+use crate::values::{text, value_of, values_of};
 use agenda_sources::{SourcePath, SourcePaths};
 use clap::ArgMatches;
 use plan_rules::SourceKind;
@@ -52,40 +51,13 @@ fn add_paths(
         ≡ paths.old ++ map (path_of kind) (paths_in kind (rows_of (found_of given.now)))) }
 {
     if kind.is_many() {
-        add_many(alloc, given, kind, paths)
-    } else {
-        add_one(alloc, given, kind, paths)
+        return match values_of(given, kind.option()) {
+            Some(written) => add_all(alloc, kind, written, paths),
+            None => Ok(()),
+        };
     }
-}
-
-// Adds the path of the only source of a kind, if it was given.
-fn add_one(
-    alloc: Global,
-    given: &ArgMatches<'_>,
-    kind: SourceKind,
-    paths: &mut SourcePaths,
-) -> Result<(), AllocError>
-    ensures { OnOk result (paths.new
-        ≡ paths.old ++ map (path_of kind) (all_given (first_of (option_of kind) (rows_of (found_of given.now))))) }
-{
-    match given.get_str(kind.option()) {
+    match value_of(given, kind.option()) {
         Some(path) => add_path(alloc, kind, path, paths),
-        None => Ok(()),
-    }
-}
-
-// Adds the paths of all sources of a kind that can be given more than once.
-fn add_many(
-    alloc: Global,
-    given: &ArgMatches<'_>,
-    kind: SourceKind,
-    paths: &mut SourcePaths,
-) -> Result<(), AllocError>
-    ensures { OnOk result (paths.new
-        ≡ paths.old ++ map (path_of kind) (unwrap_or (all_of (option_of kind) (rows_of (found_of given.now))) [])) }
-{
-    match given.get_strs(kind.option()) {
-        Some(written) => add_all(alloc, kind, written, paths),
         None => Ok(()),
     }
 }

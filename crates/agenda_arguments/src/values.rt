@@ -1,6 +1,6 @@
 //! The values of a subcommand's options and arguments.
-ghost use Rattle.std.specs.Prelude.{◌≡◌, IfOk, option_map};
-ghost use Rattle.clap.specs.Words.{first_of, found_of, one_of, rows_of};
+ghost use Rattle.std.specs.Prelude.{◌≡◌, IfOk, map, option_map};
+ghost use Rattle.clap.specs.Words.{all_of, first_of, found_of, one_of, rows_of};
 ghost use Rattle.agenda_arguments.specs.Arguments.{Follows, is_given, number_in, wanted};
 
 use crate::ask::UsageFault;
@@ -13,6 +13,13 @@ pub(crate) fn value_of<'a>(given: &ArgMatches<'a>, option: &str) -> Option<&'a s
     ensures { option_map (λ value. value.now) result ≡ first_of option.now (rows_of (found_of given.now)) }
 {
     given.get_str(option)
+}
+
+/// Returns all values of an option, in the order of the arguments, if it is given, as `clap` lends them.
+pub(crate) fn values_of<'a, 'b>(given: &'b ArgMatches<'a>, option: &str) -> Option<&'b [&'a str]>
+    ensures { option_map (λ values. map (λ value. value.now) values.now) result ≡ all_of option.now (rows_of (found_of given.now)) }
+{
+    given.get_strs(option)
 }
 
 /// Returns a copy of the value of an option, if it is given.

@@ -37,9 +37,11 @@ use Rattle.agenda_faults.specs.declared.faults.RunFault.{RunFault}
 use Rattle.agenda_faults.specs.declared.faults.RunFault.TheVariants as run
 use Rattle.agenda_faults.specs.declared.faults.Failure.{Failure}
 use Rattle.agenda_faults.specs.declared.faults.Failure.TheVariants as failure
-use Rattle.agenda_faults.specs.MachineLines.{machine_line, memory_line, named_zone_line, no_zone_line, option_name, time_line}
+use Rattle.agenda_faults.specs.MachineLines.{machine_line, memory_line, named_zone_line, no_zone_line, number_code, number_line, number_name, option_name, range_words, time_line}
 use Rattle.agenda_faults.specs.declared.machine_faults.MachineFault.{MachineFault}
 use Rattle.agenda_faults.specs.declared.machine_faults.MachineFault.TheVariants as machine
+use Rattle.agenda_faults.specs.declared.machine_faults.NumberOption.{NumberOption}
+use Rattle.agenda_faults.specs.declared.machine_faults.NumberOption.TheVariants as number
 use Rattle.agenda_faults.specs.declared.machine_faults.TimeOption.{TimeOption}
 use Rattle.plan_times.specs.declared.fault.TimeFault.{TimeFault}
 use Rattle.plan_times.specs.declared.fault.TimeFault.TheVariants as time
@@ -114,6 +116,12 @@ script_has script.BadLine = has code.BadLine
 script_has script.BadSize = has code.BadSize
 script_has script.TooManySteps = has code.TooManySteps
 
+number_has : (option : NumberOption) → HasCode (number_code option)
+number_has number.Count = has code.BadCount
+number_has number.Limit = has code.BadLimit
+number_has number.Planners = has code.BadSize
+number_has number.Room = has code.BadSize
+
 -- ---- the forms of lines
 
 ends : (front : List ℕ) (code : Code) → EndsWithCode (front ++ (name_of code ++ codes "\n"))
@@ -122,6 +130,15 @@ ends front code = record { front = front; is_in_words = false; code = code; is =
 -- a line in words
 in_words : (front : List ℕ) (code : Code) → EndsWithCode (front ++ (codes "[" ++ (name_of code ++ codes "]\n")))
 in_words front code = record { front = front; is_in_words = true; code = code; is = refl }
+
+-- the same, with the name of a code
+named_in_words : (front name : List ℕ) → HasCode name → EndsWithCode (front ++ (codes "[" ++ (name ++ codes "]\n")))
+named_in_words front name has = record {
+  front = front;
+  is_in_words = true;
+  code = has.code;
+  is = ap (λ n. front ++ (codes "[" ++ (n ++ codes "]\n"))) has.is;
+}
 
 longer : (front text : List ℕ) → EndsWithCode text → EndsWithCode (front ++ text)
 longer front text end = record {
@@ -225,10 +242,16 @@ ends_named_zone text zone.TooLarge like =
 ends_named_zone text zone.BadZone like =
     longer (codes "agenda: zone '") _ (longer text _ (in_words (codes "': not a TZif file ") code.BadZone))
 
+ends_number : (option : NumberOption) (number : ℕ) → EndsWithCode (number_line option number)
+ends_number option number =
+    longer (codes "agenda: ") _ (longer (number_name option) _ (longer (range_words option) _ (longer (decimal number) _
+    (named_in_words (codes "' ") (number_code option) (number_has option)))))
+
 ends_machine : (fault : MachineFault) → EndsWithCode (machine_line fault)
 ends_machine (machine.Time option fault text) = ends_time option fault text
 ends_machine (machine.Length text) =
     longer (codes "agenda: --least: not a length: '") _ (longer text _ (in_words (codes "' (such as '90min' or '2h') ") code.BadLength))
+ends_machine (machine.Number option number) = ends_number option number
 ends_machine (machine.Backwards since) =
     longer (codes "agenda: --until is before --since (") _ (longer since _ (in_words (codes ") ") code.Backwards))
 ends_machine (machine.Zone text fault like) = ends_named_zone text fault like

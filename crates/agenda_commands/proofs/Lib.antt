@@ -1,2 +1,4 @@
 mod CodeLemmas
 mod PrepareLemmas
+mod RemarkLemmas
+mod StartLemmas

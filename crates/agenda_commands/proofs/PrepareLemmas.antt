@@ -1,5 +1,5 @@
 -- How the answer for jobs follows from its steps: for `prepare_answer`.
-use Rattle.std.proofs.Common.{◌≡◌, ◌≢◌, List, ℕ, Option, None, Some, IfSome, IfErr, Result, Ok, Err, ap, refl, subst, sym, ◌∙◌}
+use Rattle.std.proofs.Common.{◌≡◌, ◌≢◌, List, ℕ, Option, None, Some, IfSome, IfErr, Result, Ok, Err, ap, subst, sym, ◌∙◌}
 use Rattle.std.specs.Result.{IsErrAnd}
 use Rattle.plan_rules.specs.Job.{JobParts}
 use Rattle.agenda_sources.specs.declared.SourceFault.{SourceFault}

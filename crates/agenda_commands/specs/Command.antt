@@ -32,3 +32,10 @@ IsFaultOf output fault = fault ≢ NoMemory → output ≡ Err fault
 abbrev pub Outputs : {A : Type 0} → Bool → Result (List ℕ) RunFault → Result A RunFault → (old new : Option (List ℕ)) → Type 0
 Outputs takes_all output (Ok done) old new = Writes (IsTextOf output) old new
 Outputs takes_all output (Err fault) old new = Fails takes_all (IsTextOf output) (IsFaultOf output) fault old new
+
+-- a command with an answer like this ended: it wrote the text, or it failed. Any answer is possible if an allocation failed
+abbrev pub OutputsAnswer :
+    {A : Type 0} → Bool → (Result (List ℕ) RunFault → Type 0) → Result A RunFault → (old new : Option (List ℕ)) → Type 0
+OutputsAnswer takes_all Answers (Ok done) old new = Writes (λ text. Answers (Ok text)) old new
+OutputsAnswer takes_all Answers (Err fault) old new =
+    Fails takes_all (λ text. Answers (Ok text)) (λ found. found ≢ NoMemory → Answers (Err found)) fault old new

@@ -1,18 +1,20 @@
--- The form of an answer: lines, or a table. All of it is our choice (agenda).
+-- The form of an answer: lines or a table. All of it is our choice (agenda).
 use Rattle.std.specs.Prelude.{ℕ, ◌==◌, if◌then◌else◌, List, Option, None, Some, Result}
 use Rattle.plan_rules.specs.Job.{JobParts}
+use Rattle.plan_write.specs.declared.JobFile.{JobFile}
 use Rattle.agenda_faults.specs.declared.faults.RunFault.{RunFault}
-use Rattle.agenda_commands.specs.Goal.{AnswersGoal}
+use Rattle.agenda_commands.specs.Goal.{AnswersWithFiles}
 use Rattle.agenda_commands.specs.Table.{AnswersTable}
 use Rattle.agenda_commands.specs.declared.goal.Goal.{Goal}
 use Rattle.agenda_commands.specs.declared.goal.Goal.TheVariants as goal
 use Rattle.agenda_commands.specs.declared.prepare.Form.{Form}
 use Rattle.agenda_commands.specs.declared.prepare.Form.TheVariants as form
 
--- the answer in a form
-abbrev pub AnswersForm : Form → Goal → Result (List JobParts) RunFault → Result (List ℕ) RunFault → Type 0
-AnswersForm (form.Lines format) goal jobs answer = AnswersGoal format goal jobs answer
-AnswersForm (form.Table table) goal jobs answer = AnswersTable table goal jobs answer
+-- the answer in a form; lines have the files of jobs if these are given, and a table has none
+abbrev pub AnswersForm :
+    (files : Option (List JobFile)) → Form → Goal → Result (List JobParts) RunFault → Result (List ℕ) RunFault → Type 0
+AnswersForm files (form.Lines format) goal jobs answer = AnswersWithFiles files format goal jobs answer
+AnswersForm files (form.Table table) goal jobs answer = AnswersTable table goal jobs answer
 
 -- the time after which, or from which on, starts are searched for
 abbrev pub start_of : Goal → ℕ
@@ -21,5 +23,9 @@ start_of (goal.Upcoming after delays) = after
 start_of (goal.Quiet planning least) = planning.span.since
 
 -- the time from which a table counts: now, if the answer starts there
+abbrev pub origin_at : (start now : ℕ) → Option ℕ
+origin_at start now = if start == now then Some now else None
+
+-- the same, by what is made of jobs
 abbrev pub origin_of : Goal → (now : ℕ) → Option ℕ
-origin_of goal now = if start_of goal == now then Some now else None
+origin_of goal now = origin_at (start_of goal) now

@@ -1,5 +1,5 @@
 -- What is made of jobs, by a goal: its text and its errors. All of it is our choice (agenda).
-use Rattle.std.specs.Prelude.{◌≡◌, ◌≢◌, ⊤, ℕ, ◌==◌, if◌then◌else◌, Bool, List, length, map, Result, Ok, Err}
+use Rattle.std.specs.Prelude.{◌≡◌, ◌≢◌, ⊤, ℕ, ◌==◌, if◌then◌else◌, Bool, List, length, map, Option, None, Some, Result, Ok, Err}
 use Rattle.plan_texts.specs.Steps.{◌>>=◌}
 use Rattle.plan_rules.specs.Job.{JobParts}
 use Rattle.plan_rules.specs.Delays.{counted}
@@ -8,9 +8,10 @@ use Rattle.plan_collect.specs.Planning.{plan_answer, valid_sizes}
 use Rattle.plan_collect.specs.Windows.{timings_of}
 use Rattle.plan_collect.specs.declared.sizes.Sizes.{Sizes}
 use Rattle.plan_write.specs.Quiet.{quiet_text}
-use Rattle.plan_write.specs.Texts.{agenda_text, line_end, text_by_ends}
+use Rattle.plan_write.specs.Texts.{EndParts, line_end, object_ends, text_by_ends}
 use Rattle.plan_write.specs.Upcoming.{AreUpcoming, upcoming_text}
 use Rattle.plan_write.specs.declared.Format.{Format}
+use Rattle.plan_write.specs.declared.JobFile.{JobFile}
 use Rattle.agenda_faults.specs.declared.faults.RunFault.{RunFault}
 use Rattle.agenda_faults.specs.declared.faults.RunFault.TheVariants.{BadLeast, NoMemory}
 use Rattle.agenda_faults.specs.Faults.{fault_of_plan}
@@ -54,11 +55,16 @@ checked_goal goal = do
 abbrev pub agenda_of_jobs : List JobParts → Planning → Result Planned RunFault
 agenda_of_jobs jobs planning = step fault_of_plan (plan_answer (timings_of jobs) planning.span planning.sizes)
 
+-- the ends of the lines of jobs in a format, or those of their objects in JSON if their files are given
+abbrev pub ends_of : Format → (files : Option (List JobFile)) → List JobParts → List EndParts
+ends_of format None jobs = map (line_end format.json) jobs
+ends_of format (Some files) jobs = object_ends files jobs
+
 -- what `plan` writes for the jobs that are planned: their agenda
-abbrev pub plan_output : Format → List JobParts → Planning → Result (List ℕ) RunFault
-plan_output format jobs planning = do
+abbrev pub plan_output : Format → (files : Option (List JobFile)) → List JobParts → Planning → Result (List ℕ) RunFault
+plan_output format files jobs planning = do
   made ← agenda_of_jobs jobs planning
-  Ok (agenda_text format planning.delays made jobs)
+  Ok (text_by_ends format planning.delays made (ends_of format files jobs))
 
 -- what `quiet` writes for the jobs that are planned: the gaps of their agenda that last at least `least` seconds
 abbrev pub quiet_output : Format → List JobParts → Planning → (least : ℕ) → Result (List ℕ) RunFault
@@ -67,17 +73,26 @@ quiet_output format jobs planning least = do
   Ok (quiet_text format least made jobs)
 
 -- what `upcoming` writes for jobs: when each of them starts next
-abbrev pub IsTextOfNexts : Format → List JobParts → (after : ℕ) → (delays : Bool) → List ℕ → Type 0
-IsTextOfNexts format jobs after delays text =
-    (nexts : List (ℕ × ℕ)) × AreUpcoming jobs after nexts × (text ≡ upcoming_text format delays nexts (map (line_end format.json) jobs))
+abbrev pub IsTextOfNexts :
+    Format → (files : Option (List JobFile)) → List JobParts → (after : ℕ) → (delays : Bool) → List ℕ → Type 0
+IsTextOfNexts format files jobs after delays text =
+    (nexts : List (ℕ × ℕ)) × AreUpcoming jobs after nexts × (text ≡ upcoming_text format delays nexts (ends_of format files jobs))
 
--- the answer for jobs, or the first error: that of the jobs, or else that of the goal. The next starts of jobs have none
+-- the answer for jobs, with their files if these are given, or the first error: that of the jobs, or else that of the goal. The next
+-- starts of jobs have none, and gaps have no files
+abbrev pub AnswersWithFiles :
+    (files : Option (List JobFile)) → Format → Goal → Result (List JobParts) RunFault → Result (List ℕ) RunFault → Type 0
+AnswersWithFiles files format goal (Err fault) answer = Err fault ≡ answer
+AnswersWithFiles files format (goal.Plan planning) (Ok jobs) answer =
+    plan_output format files (counted planning.delays jobs) planning ≡ answer
+AnswersWithFiles files format (goal.Upcoming after delays) (Ok jobs) (Ok text) = IsTextOfNexts format files jobs after delays text
+AnswersWithFiles files format (goal.Upcoming after delays) (Ok jobs) (Err fault) = ⊥
+AnswersWithFiles files format (goal.Quiet planning least) (Ok jobs) answer =
+    quiet_output format (counted planning.delays jobs) planning least ≡ answer
+
+-- the answer without files
 abbrev pub AnswersGoal : Format → Goal → Result (List JobParts) RunFault → Result (List ℕ) RunFault → Type 0
-AnswersGoal format goal (Err fault) answer = Err fault ≡ answer
-AnswersGoal format (goal.Plan planning) (Ok jobs) answer = plan_output format (counted planning.delays jobs) planning ≡ answer
-AnswersGoal format (goal.Upcoming after delays) (Ok jobs) (Ok text) = IsTextOfNexts format jobs after delays text
-AnswersGoal format (goal.Upcoming after delays) (Ok jobs) (Err fault) = ⊥
-AnswersGoal format (goal.Quiet planning least) (Ok jobs) answer = quiet_output format (counted planning.delays jobs) planning least ≡ answer
+AnswersGoal format goal jobs answer = AnswersWithFiles None format goal jobs answer
 
 -- the same once the minimum length of a gap was checked
 abbrev pub checked_jobs : Goal → Result (List JobParts) RunFault → Result (List JobParts) RunFault

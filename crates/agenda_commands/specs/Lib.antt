@@ -4,7 +4,9 @@ pub mod Command
 pub mod Explain
 pub mod Goal
 pub mod Next
+pub mod NextTable
 pub mod Prepare
 pub mod Script
 pub mod Table
 pub mod Form
+pub mod Remark

@@ -1,5 +1,5 @@
 -- What is made of jobs, by a goal, as a table. All of it is our choice (agenda).
-use Rattle.std.specs.Prelude.{◌≡◌, ℕ, min, Bool, List, [], ◌∷◌, chars, codes, length, map, Result, Ok, Err}
+use Rattle.std.specs.Prelude.{◌≡◌, ℕ, min, Bool, List, ◌∷◌, chars, codes, length, map, Result, Ok, Err}
 use Rattle.plan_collect.specs.Agenda.{Planned}
 use Rattle.plan_rules.specs.Delays.{counted}
 use Rattle.plan_rules.specs.Job.{JobParts}
@@ -10,7 +10,7 @@ use Rattle.agenda_faults.specs.declared.faults.RunFault.{RunFault}
 use Rattle.agenda_table.specs.Dates.{AreDatesOf, gap_times, job_times}
 use Rattle.agenda_table.specs.Last.{after_text, span_text}
 use Rattle.agenda_table.specs.Layout.{table_text}
-use Rattle.agenda_table.specs.Rows.{LookParts, gap_rows, job_rows, job_texts}
+use Rattle.agenda_table.specs.Rows.{LookParts, gap_rows, job_rows, job_texts, start_rows}
 use Rattle.agenda_commands.specs.Goal.{agenda_of_jobs}
 use Rattle.agenda_commands.specs.declared.goal.Goal.{Goal}
 use Rattle.agenda_commands.specs.declared.goal.Goal.TheVariants as goal
@@ -53,6 +53,14 @@ IsQuietTable form least made jobs text =
     × (text ≡ text_of_rows form (gap_rows (look_of form dates) (gaps least made jobs))
     (span_text (look_of form dates) (length (gaps least made jobs)) (codes "gap") made.span.since made.span.upto form.zone.name))
 
+-- this is the table of these starts of a rule after a time, of which so many are requested; a time after the planner's years is
+-- shown as their end
+abbrev pub IsStartsTable : TableForm → (after count : ℕ) → (starts : List ℕ) → List ℕ → Type 0
+IsStartsTable form after count starts text =
+    (dates : List ℕ) × AreDatesOf form.zone.clock (min after end_second ∷ starts) dates
+    × (text ≡ text_of_rows form (start_rows (look_of form dates) count starts)
+    (after_text (look_of form dates) (length starts) (codes "start") (min after end_second) form.zone.name))
+
 -- this is a table of what is planned, or the first error of the plan
 abbrev pub AnswersPlan : (Planned → List ℕ → Type 0) → Result Planned RunFault → Result (List ℕ) RunFault → Type 0
 AnswersPlan IsTable (Ok made) (Ok text) = IsTable made text
@@ -78,6 +86,7 @@ abbrev pub rows_of_table : LookParts → TableRows → List (List (List ℕ))
 rows_of_table look (rows.Plan agenda cells delays) = job_rows look delays agenda.entries cells
 rows_of_table look (rows.Upcoming nexts cells delays) = job_rows look delays nexts cells
 rows_of_table look (rows.Quiet gaps) = gap_rows look gaps
+rows_of_table look (rows.Next starts count) = start_rows look count starts.items
 
 -- its text
 abbrev pub text_of_table : TableForm → MadeTable → List ℕ

@@ -1,9 +1,9 @@
 //! What a request makes of jobs, before a byte of it is written.
 
-ghost use Rattle.std.specs.Prelude.{◌≡◌, Err, IfErr, IfOk, IsTrue, Ok, OnOk};
+ghost use Rattle.std.specs.Prelude.{◌≡◌, Err, IfErr, IfOk, IsTrue, Ok, OnOk, length, option_map};
 ghost use Rattle.plan_rules.specs.Delays.{counted};
-ghost use Rattle.agenda_commands.specs.Form.{origin_of};
-ghost use Rattle.agenda_commands.specs.Goal.{AnswersGoal, CanBeWritten, Makes, checked_sizes, sized_goal, text_of, valid_goal};
+ghost use Rattle.agenda_commands.specs.Form.{origin_at, origin_of};
+ghost use Rattle.agenda_commands.specs.Goal.{AnswersGoal, AnswersWithFiles, CanBeWritten, Makes, checked_sizes, ends_of, sized_goal, text_of, valid_goal};
 ghost use Rattle.agenda_commands.specs.declared.goal.Goal.TheVariants.{Plan, Quiet, Upcoming as Nexts};
 ghost use Rattle.plan_streams.specs.Stream.{Puts};
 
@@ -12,8 +12,8 @@ use agenda_faults::RunFault;
 use plan_collect::{Agenda, Sizes, Span};
 use plan_rules::Jobs;
 use plan_streams::{Stream, WriteFault};
-use plan_write::{Format, LineEnds, Upcoming, write_agenda, write_quiet, write_upcoming};
-use std::alloc::Global;
+use plan_write::{Format, JobFile, LineEnds, Upcoming, write_agenda, write_quiet, write_upcoming};
+use std::alloc::{AllocError, Global};
 use std::sync::Wait;
 use std::thread::Threads;
 
@@ -71,7 +71,7 @@ impl Goal {
             Goal::Upcoming { after, .. } => *after,
             Goal::Quiet { planning, .. } => planning.span.since(),
         };
-        if start == now { Some(now) } else { None }
+        origin_at(start, now)
     }
 
     // Checks the minimum length of a gap, which is at least 1 second.
@@ -85,23 +85,34 @@ impl Goal {
     }
 }
 
-// Makes what `goal` requests of jobs.
+/// Returns the time from which a table counts: `now`, if the answer starts there.
+pub fn origin_at(start: u64, now: u64) -> Option<u64>
+    ensures { result ≡ origin_at start now }
+{
+    if start == now { Some(now) } else { None }
+}
+
+// Makes what `goal` requests of jobs, in a format. If the files of the jobs are given, it is in JSON, and has them.
 pub(crate) fn make<R: Threads + Wait + Sync>(
     rt: &R,
     alloc: Global,
     jobs: Jobs,
     goal: &Goal,
     format: &Format,
+    files: Option<&[JobFile]>,
 ) -> Result<Made, RunFault>
-    ensures made { Makes (AnswersGoal format.now goal.now (Ok jobs)) (text_of format.now) result }
+    ensures made { Makes (AnswersWithFiles (option_map (λ files. files.now) files.entry) format.now goal.now (Ok jobs))
+        (text_of format.now) result }
     ensures written { IfOk result CanBeWritten }
 
     // These errors are found before any memory is requested.
     ensures at_once { IfErr (sized_goal goal.now) (λ fault. result ≡ Err fault) }
 {
     match goal {
-        Goal::Plan(planning) => make_plan(rt, alloc, jobs, planning, format),
-        Goal::Upcoming { after, delays } => make_upcoming(alloc, jobs, *after, *delays, format),
+        Goal::Plan(planning) => make_plan(rt, alloc, jobs, planning, format, files),
+        Goal::Upcoming { after, delays } => {
+            make_upcoming(alloc, jobs, *after, *delays, format, files)
+        }
         Goal::Quiet { planning, least } => make_quiet(rt, alloc, jobs, planning, *least, format),
     }
 }
@@ -113,14 +124,16 @@ fn make_plan<R: Threads + Wait + Sync>(
     jobs: Jobs,
     planning: &Planning,
     format: &Format,
+    files: Option<&[JobFile]>,
 ) -> Result<Made, RunFault>
-    ensures made { Makes (AnswersGoal format.now (Plan planning.now) (Ok jobs)) (text_of format.now) result }
+    ensures made { Makes (AnswersWithFiles (option_map (λ files. files.now) files.entry) format.now (Plan planning.now) (Ok jobs))
+        (text_of format.now) result }
     ensures written { IfOk result CanBeWritten }
     ensures at_once { IfErr (checked_sizes planning.now) (λ fault. result ≡ Err fault) }
 {
     let jobs = counted(jobs, planning.delays);
     let agenda = make_agenda(rt, alloc, &jobs, planning)?;
-    let ends = LineEnds::new(alloc, &jobs, format.json)?;
+    let ends = ends_of(alloc, &jobs, format, files)?;
     Ok(Made::Plan(agenda, ends, planning.delays))
 }
 
@@ -131,13 +144,31 @@ fn make_upcoming(
     after: u64,
     delays: bool,
     format: &Format,
+    files: Option<&[JobFile]>,
 ) -> Result<Made, RunFault>
-    ensures made { Makes (AnswersGoal format.now (Nexts after delays) (Ok jobs)) (text_of format.now) result }
+    ensures made { Makes (AnswersWithFiles (option_map (λ files. files.now) files.entry) format.now (Nexts after delays) (Ok jobs))
+        (text_of format.now) result }
     ensures written { IfOk result CanBeWritten }
 {
     let upcoming = Upcoming::new(alloc, &jobs, after)?;
-    let ends = LineEnds::new(alloc, &jobs, format.json)?;
+    let ends = ends_of(alloc, &jobs, format, files)?;
     Ok(Made::Upcoming(upcoming, ends, delays))
+}
+
+// Makes the ends of the lines of jobs, or those of their objects if their files are given.
+fn ends_of(
+    alloc: Global,
+    jobs: &Jobs,
+    format: &Format,
+    files: Option<&[JobFile]>,
+) -> Result<LineEnds, AllocError>
+    ensures ends { IfOk result (λ ends. ends ≡ ends_of format.now (option_map (λ files. files.now) files.entry) jobs.now) }
+    ensures count { IfOk result (λ ends. length ends ≡ length jobs.now) }
+{
+    match files {
+        Some(files) => LineEnds::with_files(alloc, jobs, files),
+        None => LineEnds::new(alloc, jobs, format.json),
+    }
 }
 
 // Makes the agenda of jobs that is searched for gaps.

@@ -1,16 +1,23 @@
 //! Writes the next starts of one rule.
 
-ghost use Rattle.std.specs.Prelude.{◌≡◌, IfErr, IsTrue, OnOk};
-ghost use Rattle.agenda_commands.specs.Command.{Outputs};
+ghost use Rattle.std.specs.Prelude.{◌≡◌, IfErr, IfOk, IsTrue, OnOk};
+ghost use Rattle.agenda_commands.specs.Command.{Outputs, OutputsAnswer};
 ghost use Rattle.agenda_commands.specs.Next.{asked_reading, asked_rule, next_output, valid_count};
+ghost use Rattle.agenda_commands.specs.NextTable.{AnswersStarts, AnswersRule, counted_rule, next_starts};
+ghost use Rattle.agenda_faults.specs.declared.faults.RunFault.TheVariants.{NoMemory};
+ghost use Rattle.agenda_table.specs.Dates.{AreInYears};
 ghost use Rattle.plan_rules.specs.Readings.{Gives};
+ghost use Rattle.plan_texts.specs.Steps.{GivesUnless};
 
+use crate::prepare::Form;
+use crate::table::{TableForm, starts_table};
 use agenda_faults::RunFault;
 use agenda_sources::{Asked, TimeZones};
+use plan_next::next_start;
 use plan_rules::{EventZones, Rule, RuleFault, calendar_rule, cron_rule};
 use plan_streams::Stream;
 use plan_write::{Format, write_next};
-use std::alloc::Global;
+use std::alloc::{AllocError, Global};
 
 /// The maximum number of starts that can be requested.
 pub const MOST_STARTS: u64 = 1_000;
@@ -63,4 +70,88 @@ fn asked_rule(alloc: Global, asked: &Asked, zones: &EventZones) -> Result<Rule, 
         Asked::Cron(text) => cron_rule(alloc, text.as_str()),
         Asked::Event(text) => calendar_rule(alloc, text.as_str(), zones),
     }
+}
+
+/// Writes the next starts of a rule in a form. Lines are those of `run_next`. A table has the same starts, and all of them are
+/// found before its first byte is written.
+///
+/// # Errors
+///
+/// Those of `run_next`. A table needs memory for its starts.
+pub fn run_next_form<S: Stream>(
+    alloc: Global,
+    asked: &Asked,
+    zones: &TimeZones,
+    after: u64,
+    count: u64,
+    form: &Form,
+    out: &mut S,
+) -> Result<(), RunFault>
+    ensures output { OutputsAnswer S.takes_all (AnswersStarts form.now zones.now asked.now after count) result
+        (S.holds out.old) (S.holds out.new) }
+    ensures flushed { OnOk result (IsTrue (S.is_flushed out.new)) }
+
+    // A bad count is found before anything else, and before memory is allocated.
+    ensures bad_count { IfErr (valid_count count) (λ fault. result ≡ Err fault) }
+{
+    match form {
+        Form::Lines(format) => run_next(alloc, asked, zones, after, count, format, out),
+        Form::Table(form) => run_next_table(alloc, asked, zones, after, count, form, out),
+    }
+}
+
+// Writes the next starts of a rule as a table.
+fn run_next_table<S: Stream>(
+    alloc: Global,
+    asked: &Asked,
+    zones: &TimeZones,
+    after: u64,
+    count: u64,
+    form: &TableForm,
+    out: &mut S,
+) -> Result<(), RunFault>
+    ensures output { OutputsAnswer S.takes_all (AnswersRule form.now after count (counted_rule zones.now asked.now count)) result
+        (S.holds out.old) (S.holds out.new) }
+    ensures flushed { OnOk result (IsTrue (S.is_flushed out.new)) }
+    ensures bad_count { IfErr (valid_count count) (λ fault. result ≡ Err fault) }
+{
+    let rule = counted_rule(alloc, asked, zones, count)?;
+    let starts = next_starts(alloc, &rule, after, count)?;
+    let table = starts_table(alloc, starts, after, count, form)?;
+    table.write(form, out)?;
+    Ok(())
+}
+
+// Reads the requested rule, for these time zones, if the count is valid.
+fn counted_rule(
+    alloc: Global,
+    asked: &Asked,
+    zones: &TimeZones,
+    count: u64,
+) -> Result<Rule, RunFault>
+    ensures rule { GivesUnless NoMemory (λ rule. rule) result (counted_rule zones.now asked.now count) }
+    ensures bad_count { IfErr (valid_count count) (λ fault. result ≡ Err fault) }
+{
+    if count == 0 || count > MOST_STARTS {
+        return Err(RunFault::BadCount);
+    }
+    let rule = zoned_rule(alloc, asked, zones)?;
+    Ok(rule)
+}
+
+// Returns the first `count` starts of a rule that are later than `after`, or all of them if there are fewer.
+fn next_starts(alloc: Global, rule: &Rule, after: u64, count: u64) -> Result<Vec<u64>, AllocError>
+    ensures starts { IfOk result (λ found. found.items ≡ next_starts rule.now after count) }
+    ensures years { IfOk result (λ found. AreInYears found.items) }
+{
+    let mut found = Vec::new(alloc);
+    let mut latest = after;
+    for _listed in 0..count {
+        let Some(start) = next_start(rule, latest) else {
+            return Ok(found);
+        };
+        found.push(start)?;
+        latest = start;
+    }
+    Ok(found)
 }

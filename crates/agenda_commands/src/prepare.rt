@@ -4,15 +4,13 @@ ghost use Rattle.std.specs.Prelude.{◌≡◌, [], None, Err, IfErr, IfOk, IfSom
 ghost use Rattle.agenda_sources.specs.AtOnce.{fault_at_once};
 ghost use Rattle.agenda_faults.specs.Faults.{fault_of_sources};
 ghost use Rattle.agenda_faults.specs.declared.faults.RunFault.TheVariants.{NoMemory};
-ghost use Rattle.agenda_commands.specs.Form.{AnswersForm};
 ghost use Rattle.agenda_commands.specs.Goal.{AnswersGoal, Makes, checked_goal, checked_jobs, valid_goal};
-ghost use Rattle.agenda_commands.specs.Table.{AnswersTable};
-ghost use Rattle.agenda_commands.specs.Prepare.{HasJobs, errors_if, jobs_if, jobs_or};
+ghost use Rattle.agenda_commands.specs.Prepare.{HasJobs, IsReady, errors_if, jobs_if, jobs_or, prepared_text};
 ghost use Rattle.plan_texts.specs.Steps.{GivesUnless};
 ghost use Rattle.plan_streams.specs.Stream.{Puts};
 
 use crate::goal::{Goal, Made, make};
-use crate::table::{MadeTable, TableForm, make_table};
+use crate::table::{MadeTable, TableForm};
 use agenda_faults::RunFault;
 use agenda_sources::{Found, Sources, TimeZones, jobs_of_sources, kept_of_sources};
 use plan_rules::Jobs;
@@ -105,7 +103,7 @@ pub fn prepare_answer<R: Threads + Wait + Sync>(
 {
     goal.check()?;
     let jobs = jobs_or(alloc, kept, sources, zones)?;
-    let made = make(rt, alloc, jobs, goal, &format)?;
+    let made = make(rt, alloc, jobs, goal, &format, None)?;
     Ok(PreparedAnswer {
         answer: Prepared::Lines(made, format),
     })
@@ -129,6 +127,14 @@ fn jobs_or(
 }
 
 impl PreparedAnswer {
+    // Returns an answer that can be written.
+    pub(crate) fn new(answer: Prepared) -> PreparedAnswer
+        requires { IsReady answer }
+        ensures { result ≡ prepared_text answer }
+    {
+        PreparedAnswer { answer }
+    }
+
     /// Writes the answer.
     ///
     /// # Errors
@@ -145,35 +151,6 @@ impl PreparedAnswer {
     }
 }
 
-/// Prepares the answer that `goal` requests as a table. Otherwise the same as `prepare_answer`.
-///
-/// # Errors
-///
-/// Those of `prepare_answer`.
-pub fn prepare_table<R: Threads + Wait + Sync>(
-    rt: &R,
-    alloc: Global,
-    kept: Option<Jobs>,
-    sources: &Sources,
-    zones: &TimeZones,
-    goal: &Goal,
-    form: TableForm,
-) -> Result<PreparedAnswer, RunFault>
-    ensures answer { Makes (AnswersTable form goal.now (checked_jobs goal.now (jobs_or kept zones.now sources.now))) (λ text. text) result }
-
-    // These errors are found before any memory is requested.
-    ensures bad_least { IfErr (valid_goal goal.now) (λ fault. result ≡ Err fault) }
-    ensures at_once { IsOk (valid_goal goal.now) → kept ≡ None → IfSome (fault_at_once sources.now) (λ fault. result ≡ Err (fault_of_sources fault)) }
-    ensures no_source { HasJobs kept sources.now → IfErr (checked_goal goal.now) (λ fault. result ≡ Err fault) }
-{
-    goal.check()?;
-    let jobs = jobs_or(alloc, kept, sources, zones)?;
-    let made = make_table(rt, alloc, jobs, goal, &form)?;
-    Ok(PreparedAnswer {
-        answer: Prepared::Table(made, form),
-    })
-}
-
 /// How an answer is written.
 #[derive(Drop)]
 pub enum Form {
@@ -181,31 +158,4 @@ pub enum Form {
     Lines(Format),
     /// As a table.
     Table(TableForm),
-}
-
-/// Prepares the answer that `goal` requests in a form, as `prepare_answer` or `prepare_table`.
-///
-/// # Errors
-///
-/// Those of `prepare_answer`.
-pub fn prepare_form<R: Threads + Wait + Sync>(
-    rt: &R,
-    alloc: Global,
-    kept: Option<Jobs>,
-    sources: &Sources,
-    zones: &TimeZones,
-    goal: &Goal,
-    form: Form,
-) -> Result<PreparedAnswer, RunFault>
-    ensures answer { Makes (AnswersForm form goal.now (checked_jobs goal.now (jobs_or kept zones.now sources.now))) (λ text. text) result }
-
-    // These errors are found before any memory is requested.
-    ensures bad_least { IfErr (valid_goal goal.now) (λ fault. result ≡ Err fault) }
-    ensures at_once { IsOk (valid_goal goal.now) → kept ≡ None → IfSome (fault_at_once sources.now) (λ fault. result ≡ Err (fault_of_sources fault)) }
-    ensures no_source { HasJobs kept sources.now → IfErr (checked_goal goal.now) (λ fault. result ≡ Err fault) }
-{
-    match form {
-        Form::Lines(format) => prepare_answer(rt, alloc, kept, sources, zones, goal, format),
-        Form::Table(form) => prepare_table(rt, alloc, kept, sources, zones, goal, form),
-    }
 }

@@ -1,8 +1,9 @@
-//! What a request makes of jobs as a table, before a byte of it is written.
+//! What a request makes of jobs, or of a rule, as a table, before a byte of it is written.
 
 ghost use Rattle.std.specs.Prelude.{◌≡◌, Err, IfErr, IfOk, IsTrue, Ok, OnOk};
+ghost use Rattle.agenda_table.specs.Dates.{AreInYears};
 ghost use Rattle.agenda_commands.specs.Goal.{Makes, checked_sizes, sized_goal};
-ghost use Rattle.agenda_commands.specs.Table.{AnswersTable, IsNextsTable, IsPlanTable, IsQuietTable, look_of, text_of_table};
+ghost use Rattle.agenda_commands.specs.Table.{AnswersTable, IsNextsTable, IsPlanTable, IsQuietTable, IsStartsTable, look_of, text_of_table};
 ghost use Rattle.agenda_commands.specs.declared.goal.Goal.TheVariants.{Plan, Quiet, Upcoming as Nexts};
 ghost use Rattle.plan_streams.specs.Stream.{Puts};
 
@@ -10,8 +11,8 @@ use crate::agenda_of::make_agenda;
 use crate::goal::{Goal, Planning, counted};
 use agenda_faults::RunFault;
 use agenda_table::{
-    Frame, GapRows, Gaps, JobCells, JobRows, Look, after_text, dates_of_gaps, dates_of_jobs,
-    span_text, write_gap_table, write_job_table,
+    Frame, GapRows, Gaps, JobCells, JobRows, Look, StartRows, after_text, dates_of_gaps,
+    dates_of_jobs, dates_of_starts, span_text, write_gap_table, write_job_table, write_start_table,
 };
 use plan_collect::Agenda;
 use plan_rules::{Jobs, NamedZone, Text};
@@ -42,6 +43,8 @@ pub(crate) enum TableRows {
     Upcoming(Upcoming, JobCells, bool),
     // Those of gaps.
     Quiet(Gaps),
+    // Those of the next starts of a rule, and how many of these are requested.
+    Next(Vec<u64>, u64),
 }
 
 // A table.
@@ -166,7 +169,7 @@ fn upcoming_table(
 }
 
 // Returns the table of the gaps of an agenda of jobs.
-fn quiet_table(
+pub(crate) fn quiet_table(
     alloc: Global,
     agenda: &Agenda,
     jobs: &Jobs,
@@ -191,6 +194,30 @@ fn quiet_table(
     )?;
     Ok(MadeTable {
         rows: TableRows::Quiet(gaps),
+        dates,
+        last: Text::new(last),
+    })
+}
+
+// Returns the table of these starts of a rule after a time, of which so many are requested.
+pub(crate) fn starts_table(
+    alloc: Global,
+    starts: Vec<u64>,
+    after: u64,
+    count: u64,
+    form: &TableForm,
+) -> Result<MadeTable, AllocError>
+    requires { AreInYears starts.items }
+    ensures { IfOk result (λ made. IsStartsTable form.now after count starts.items (text_of_table form.now made)) }
+{
+    let (clock, zone) = (&form.zone.clock, form.zone.name.as_str());
+    let shown = after.min(END_SECOND);
+    let dates = dates_of_starts(alloc, clock, shown, &starts)?;
+    let look = Look::new(clock, &dates, form.origin);
+    let found = starts.as_slice().len();
+    let last = after_text(alloc, &look, found, "start", shown, zone)?;
+    Ok(MadeTable {
+        rows: TableRows::Next(starts, count),
         dates,
         last: Text::new(last),
     })
@@ -226,6 +253,14 @@ impl MadeTable {
             TableRows::Quiet(gaps) => {
                 let table = GapRows { look: &look, gaps };
                 write_gap_table(&table, last, form.frame, out)
+            }
+            TableRows::Next(starts, count) => {
+                let table = StartRows {
+                    look: &look,
+                    starts,
+                    count: *count,
+                };
+                write_start_table(&table, last, form.frame, out)
             }
         }
     }

@@ -1,7 +1,7 @@
 -- What jobs cover, entry by entry: for the loop of `covers_of`. What is counted and what is left are together what the jobs cover.
 use Rattle.std.proofs.Common.{◌≡◌, ℕ, zero, suc, ◌+◌, ◌<◌, ◌≤◌, Bool, true, false, ◌&&◌, ◌||◌, List, [], ◌∷◌, ◌++◌, length, drop, take, append-nil, take_all, get_or, map, refl, ap, sym, subst, ◌∙◌, arith}
 use Rattle.std.specs.Prelude.{◌==◌, nat_le, replicate, slice_get, slice_set}
-use Rattle.std.specs.List.{list_all, list_any, range_with_len}
+use Rattle.std.specs.List.{list_all, range_with_len}
 use Rattle.std.proofs.lemmas.Bool.{and_parts, leb-true}
 use Rattle.std.proofs.lemmas.Bool.Decides.{nat_tests}
 use Rattle.std.proofs.lemmas.List.{drop_all}
@@ -9,7 +9,7 @@ use Rattle.plan_collect.specs.Agenda.{Planned}
 use Rattle.plan_collect.specs.Windows.{latest_start}
 use Rattle.plan_rules.specs.Job.{JobParts}
 use Rattle.plan_write.specs.Quiet.{delay_of}
-use Rattle.agenda_cover.specs.Counting.{changed_at, end_of, seconds_counted, with_window}
+use Rattle.agenda_cover.specs.Counting.{changed_at, seconds_counted, with_window}
 use Rattle.agenda_cover.specs.Cover.{AreFrom, AreInOrder, cover, is_in_window, may_start, tally}
 use Rattle.agenda_cover.proofs.TallyLemmas.{tally_none, tally_same, with_one_window}
 

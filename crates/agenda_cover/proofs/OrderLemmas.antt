@@ -1,5 +1,5 @@
 -- The entries of an agenda are in the order of their times: they ascend.
-use Rattle.std.proofs.Common.{◌≡◌, ℕ, ◌≤◌, List, [], ◌∷◌, refl, arith}
+use Rattle.std.proofs.Common.{ℕ, List, [], ◌∷◌, refl, arith}
 use Rattle.std.specs.Prelude.{nat_le}
 use Rattle.std.specs.List.{list_all}
 use Rattle.std.proofs.lemmas.Bool.{and_from}
@@ -7,7 +7,7 @@ use Rattle.std.proofs.lemmas.Bool.Decides.{nat_tests}
 use Rattle.plan_collect.specs.Span.{Bounds}
 use Rattle.plan_collect.specs.Windows.{Timing, agenda_of_windows}
 use Rattle.plan_collect.proofs.AgendaOrder.{Ascends-agenda}
-use Rattle.plan_collect.proofs.StartsLemmas.{Ascends, NoneBefore, is_before}
+use Rattle.plan_collect.proofs.StartsLemmas.{Ascends, NoneBefore}
 use Rattle.agenda_cover.specs.Cover.{AreFrom, AreInOrder}
 
 from_second : (entry : ℕ × ℕ) (later : List (ℕ × ℕ)) → NoneBefore entry later → AreFrom entry.0 later

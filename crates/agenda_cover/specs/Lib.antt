@@ -2,5 +2,4 @@ pub mod Cover
 pub mod Counting
 pub mod Ranking
 pub mod Lengths
-pub mod Names
 pub mod Remark

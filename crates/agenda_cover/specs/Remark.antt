@@ -4,9 +4,9 @@ use Rattle.std.specs.List.{flat_map}
 use Rattle.plan_collect.specs.Agenda.{Planned}
 use Rattle.plan_rules.specs.Job.{JobParts}
 use Rattle.plan_write.specs.Quiet.{gaps}
+use Rattle.plan_write.specs.Shown.{shown}
 use Rattle.agenda_cover.specs.Cover.{covers}
 use Rattle.agenda_cover.specs.Lengths.{length_text}
-use Rattle.agenda_cover.specs.Names.{shown}
 use Rattle.agenda_cover.specs.Ranking.{most_covering}
 
 -- the length of the longest of gaps, or 0 if there is none

@@ -1,13 +1,12 @@
 //! Why an agenda has no gap: the longest gap, and the jobs that cover most of the span.
 //!
 //! A job covers the seconds at which it may start. `cover` counts them, in one pass over the entries of an agenda.
-//! `ranking` picks the jobs that cover most. `remark` makes the line, with the lengths of `lengths` and the names of
-//! `names`. Read `remark` first.
+//! `ranking` picks the jobs that cover most. `remark` makes the line, with the lengths of `lengths`. Read
+//! `remark` first.
 #![tactic(auto)]
 
 mod cover;
 mod lengths;
-mod names;
 mod ranking;
 mod remark;
 

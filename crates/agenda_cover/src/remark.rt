@@ -7,11 +7,11 @@ ghost use Rattle.agenda_cover.specs.Remark.{job_text, jobs_text, line_text, long
 
 use crate::cover::covers_of;
 use crate::lengths::push_length;
-use crate::names::push_shown;
 use crate::ranking::most_covering;
 use agenda_table::Gaps;
 use plan_collect::Agenda;
 use plan_rules::{Jobs, Text};
+use plan_write::push_shown;
 use std::alloc::{AllocError, Global};
 
 /// Returns why an agenda of jobs has no gap of at least `least` seconds, as a line for people. `None` if it has one.

@@ -5,7 +5,9 @@ use Rattle.plan_times.specs.declared.fault.TimeFault.TheVariants.{BadTime, OutOf
 use Rattle.plan_zones.specs.declared.zone_fault.ZoneFault.{ZoneFault}
 use Rattle.plan_zones.specs.declared.zone_fault.ZoneFault.TheVariants as zone
 use Rattle.agenda_faults.specs.declared.machine_faults.MachineFault.{MachineFault}
-use Rattle.agenda_faults.specs.declared.machine_faults.MachineFault.TheVariants.{Time, Length, Backwards, Zone, Clock}
+use Rattle.agenda_faults.specs.declared.machine_faults.MachineFault.TheVariants.{Time, Length, Number, Backwards, Zone, Clock}
+use Rattle.agenda_faults.specs.declared.machine_faults.NumberOption.{NumberOption}
+use Rattle.agenda_faults.specs.declared.machine_faults.NumberOption.TheVariants as number
 use Rattle.agenda_faults.specs.declared.machine_faults.TimeOption.{TimeOption}
 use Rattle.agenda_faults.specs.declared.machine_faults.TimeOption.TheVariants as option
 
@@ -28,6 +30,36 @@ time_words OutOfYears text = codes ": before 1970 or after 2999: '" ++ (text ++ 
 -- an option whose text is not a time
 abbrev pub time_line : TimeOption → TimeFault → (text : List ℕ) → List ℕ
 time_line option fault text = codes "agenda: " ++ (option_name option ++ time_words fault text)
+
+-- the name of an option that gives a number
+abbrev pub number_name : NumberOption → List ℕ
+number_name number.Count = codes "--count"
+number_name number.Limit = codes "--limit"
+number_name number.Planners = codes "--planners"
+number_name number.Room = codes "--room"
+
+-- the greatest number that it may have; the least is 1
+abbrev pub most_of : NumberOption → ℕ
+most_of number.Count = 1000
+most_of number.Limit = 1000000
+most_of number.Planners = 8
+most_of number.Room = 1024
+
+-- the code of a number that is out of its range
+abbrev pub number_code : NumberOption → List ℕ
+number_code number.Count = codes "BadCount"
+number_code number.Limit = codes "BadLimit"
+number_code number.Planners = codes "BadSize"
+number_code number.Room = codes "BadSize"
+
+-- the range of an option, before a number that is not in it
+abbrev pub range_words : NumberOption → List ℕ
+range_words option = codes ": not from 1 to " ++ (decimal (most_of option) ++ codes ": '")
+
+-- an option whose number is out of its range
+abbrev pub number_line : NumberOption → (number : ℕ) → List ℕ
+number_line option number =
+    codes "agenda: " ++ (number_name option ++ (range_words option ++ (decimal number ++ (codes "' [" ++ (number_code option ++ codes "]\n")))))
 
 -- a span whose end is before its start, of which this is the text
 abbrev pub backwards_line : (since : List ℕ) → List ℕ
@@ -61,6 +93,7 @@ abbrev pub machine_line : MachineFault → List ℕ
 machine_line (Time option fault text) = time_line option fault text
 machine_line (Length text) =
     codes "agenda: --least: not a length: '" ++ (text ++ codes "' (such as '90min' or '2h') [BadLength]\n")
+machine_line (Number option number) = number_line option number
 machine_line (Backwards since) = backwards_line since
 machine_line (Zone text fault like) = named_zone_line text fault like
 machine_line Clock = codes "agenda: the system clock is after 2999: set it [OutOfYears]\n"

@@ -13,4 +13,4 @@ pub mod status;
 
 pub use fault_lines::fault_line;
 pub use faults::{Failure, RunFault};
-pub use machine_faults::{MachineFault, TimeOption};
+pub use machine_faults::{MachineFault, NumberOption, TimeOption};

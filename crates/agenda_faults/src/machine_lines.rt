@@ -2,10 +2,10 @@
 
 ghost use Rattle.std.specs.Prelude.{◌≡◌};
 ghost use Rattle.plan_streams.specs.Writer.{Takes};
-ghost use Rattle.agenda_faults.specs.MachineLines.{backwards_line, machine_line, named_zone_line, no_zone_line, time_line, time_words, too_many_line};
+ghost use Rattle.agenda_faults.specs.MachineLines.{backwards_line, machine_line, named_zone_line, no_zone_line, number_line, range_words, time_line, time_words, too_many_line};
 
 use crate::fault_lines::{MEMORY_LINE, put_between};
-use crate::machine_faults::{MachineFault, TimeOption};
+use crate::machine_faults::{MachineFault, NumberOption, TimeOption};
 use itoa::Buffer as Digits;
 use plan_rules::Text;
 use plan_streams::{Stream, TextWriter};
@@ -27,6 +27,7 @@ pub(crate) fn put_machine_fault<S: Stream>(fault: &MachineFault, line: &mut Text
             b"' (such as '90min' or '2h') [BadLength]\n",
             line,
         ),
+        MachineFault::Number(option, number) => put_number(*option, *number, line),
         MachineFault::Backwards(since) => put_backwards(since, line),
         MachineFault::Zone(text, fault, like) => {
             put_named_zone(text.as_str(), *fault, like, line);
@@ -70,6 +71,28 @@ fn put_time_words<S: Stream>(fault: TimeFault, text: &str, line: &mut TextWriter
             );
         }
     }
+}
+
+// Puts the line of an option whose number is out of its range.
+fn put_number<S: Stream>(option: NumberOption, number: u64, line: &mut TextWriter<'_, S>)
+    ensures { Takes S.holds S.takes_all line.old line.new (number_line option number) }
+{
+    line.put_both(b"agenda: ", option.name().as_bytes());
+    put_range(option, line);
+    line.put_both(Digits::new().format(number).as_bytes(), b"' [");
+    line.put_both(option.code().as_bytes(), b"]\n");
+}
+
+// Puts the range of an option.
+fn put_range<S: Stream>(option: NumberOption, line: &mut TextWriter<'_, S>)
+    ensures { Takes S.holds S.takes_all line.old line.new (range_words option) }
+{
+    put_between(
+        b": not from 1 to ",
+        Digits::new().format(option.most()),
+        b": '",
+        line,
+    );
 }
 
 // Puts the line of a span whose end is before its start.

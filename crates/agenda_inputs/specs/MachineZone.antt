@@ -1,5 +1,6 @@
 -- The clock of a machine's time zone (localtime(5)).
 use Rattle.std.specs.Prelude.{◌≡◌, ◌≢◌, ◌⊎◌, ℕ, Bool, true, false, List, [], codes, ◌++◌, Option, None, Some, Result, Ok, Err}
+use Rattle.plan_clock.specs.declared.row.Change.{Change}
 use Rattle.plan_machine.specs.Zone.{Zone, machine_zone}
 use Rattle.plan_machine.specs.Zone as zone
 use Rattle.plan_rules.specs.declared.NamedZone.{NamedZone}
@@ -75,15 +76,19 @@ abbrev pub clock_if_found : Option NamedZone → Step ZoneClock
 clock_if_found None = gives (utc_clock true)
 clock_if_found (Some zone) = gives (record { name = Some zone.name; is_of_file = false; clock = zone.clock; is_unknown = false })
 
--- a zone's file below the root, with the name of the zone if it has one
-abbrev pub clock_of_file : Option (List ℕ) → List ℕ → Step ZoneClock
-clock_of_file name bytes = do
-  clock ← clock_of_bytes bytes
-  gives (record { name = name; is_of_file = true; clock = clock; is_unknown = false })
+-- a zone's file below the root. If it is invalid, the failure has this text of the zone
+abbrev pub file_clock : Held → (text bytes : List ℕ) → Step (List Change)
+file_clock held text bytes = naming_zone held text (clock_of_bytes bytes)
+
+-- the zone of such a file, with its name if it has one
+abbrev pub zone_of_file : (name : Option (List ℕ)) → (clock : List Change) → ZoneClock
+zone_of_file name clock = record { name = name; is_of_file = true; clock = clock; is_unknown = false }
 
 -- the file of a named zone is that below the root, or else that of the running machine
 abbrev pub named_clock : Held → List ℕ → Option (List ℕ) → Step ZoneClock
-named_clock held name (Some bytes) = clock_of_file (Some name) bytes
+named_clock held name (Some bytes) = do
+  clock ← file_clock held name bytes
+  gives (zone_of_file (Some name) clock)
 named_clock held name None = do
   zone ← looked_up held name
   clock_if_found zone
@@ -99,11 +104,18 @@ clock_by_name held name bytes (Err fault) = gives (utc_clock true)
 abbrev pub local_path : (root : List ℕ) → List ℕ
 local_path root = root ++ codes "/etc/localtime"
 
+-- the file of a zone without a name has its path in a failure
+abbrev pub local_clock : Held → (root bytes : List ℕ) → Step ZoneClock
+local_clock held root bytes = do
+  path ← computes (local_path root)
+  clock ← file_clock held path bytes
+  gives (zone_of_file None clock)
+
 -- the clock of a machine's own zone
 abbrev pub clock_by_zone : Held → (root : List ℕ) → Zone → Step ZoneClock
 clock_by_zone held root zone.Utc = gives (utc_clock false)
 clock_by_zone held root (zone.Named name bytes) = clock_by_name held name bytes (source_of name)
-clock_by_zone held root (zone.Local (Some bytes)) = clock_of_file None bytes
+clock_by_zone held root (zone.Local (Some bytes)) = local_clock held root bytes
 clock_by_zone held root (zone.Local None) = fails_with (File (local_path root))
 clock_by_zone held root zone.Unknown = gives (utc_clock true)
 

@@ -1,7 +1,7 @@
 //! Reads the clock of a machine's time zone (localtime(5)).
 
 ghost use Rattle.std.specs.Prelude.{◌≡◌, IfOk, Ok, option_map};
-ghost use Rattle.agenda_inputs.specs.MachineZone.{clock_by_name, clock_by_zone, clock_if_found, clock_of_file, fails_for_zone, given_clock, local_path, machine_clock, named_clock, names_zone, suggestion_for, utc_clock};
+ghost use Rattle.agenda_inputs.specs.MachineZone.{clock_by_name, clock_by_zone, clock_if_found, fails_for_zone, file_clock, given_clock, local_clock, local_path, machine_clock, named_clock, names_zone, zone_of_file, suggestion_for, utc_clock};
 ghost use Rattle.plan_machine.specs.Zone.{zone_shown};
 ghost use Rattle.plan_zones.specs.ZoneTexts.{source_of};
 
@@ -34,8 +34,8 @@ pub struct ZoneClock {
 ///
 /// # Errors
 ///
-/// `Machine(Zone)` if the zone that is given can't be used; `Zone` if that of the machine can't; or `File` if the file
-/// of one of them can't be read.
+/// `Machine(Zone)` if the zone can't be used, with the text that is given, or else the name of the machine's zone, or the
+/// path of its file if it has no name; or `File` if its file can't be read.
 pub fn machine_clock<F: Files, T: Tree>(
     alloc: Global,
     files: &mut F,
@@ -130,10 +130,27 @@ fn clock_by_zone<F: Files>(
     match zone {
         MachineZone::Utc => Ok(utc_clock(false)),
         MachineZone::Named { name, bytes } => clock_by_name(alloc, files, name, bytes),
-        MachineZone::Local { bytes: Some(bytes) } => clock_of_file(alloc, None, bytes.as_slice()),
+        MachineZone::Local { bytes: Some(bytes) } => {
+            local_clock(alloc, files, root, bytes.as_slice())
+        }
         MachineZone::Local { bytes: None } => Err(Failure::File(local_path(alloc, root)?)),
         MachineZone::Unknown => Ok(utc_clock(true)),
     }
+}
+
+// Reads the clock of a machine's zone that has no name. These are the bytes of its file.
+fn local_clock<F: Files>(
+    alloc: Global,
+    files: &mut F,
+    root: &str,
+    bytes: &[u8],
+) -> Result<ZoneClock, Failure>
+    ensures read { local_clock (F.held files.old) root.now bytes.now result }
+    ensures same { F.held files.new ≡ F.held files.old }
+{
+    let path = local_path(alloc, root)?;
+    let clock = file_clock(alloc, files, path.as_str(), bytes)?;
+    Ok(zone_of_file(None, clock))
 }
 
 // Returns the path of the file of a machine's zone.
@@ -176,7 +193,8 @@ fn named_clock<F: Files>(
         let zone = look_up(alloc, files, name.as_str())?;
         return Ok(clock_if_found(zone));
     };
-    clock_of_file(alloc, Some(name), bytes.as_slice())
+    let clock = file_clock(alloc, files, name.as_str(), bytes.as_slice())?;
+    Ok(zone_of_file(Some(name), clock))
 }
 
 // Returns the clock of a zone that the running machine has, or else that of an unknown zone.
@@ -206,17 +224,30 @@ fn utc_clock(is_unknown: bool) -> ZoneClock
     }
 }
 
-// Reads the clock of a zone's file, whose name is given if it has one.
-fn clock_of_file(alloc: Global, name: Option<Text>, bytes: &[u8]) -> Result<ZoneClock, Failure>
-    ensures { clock_of_file name bytes.now result }
+// Reads the clock of a zone's file. If it is invalid, the error has this text of the zone.
+fn file_clock<F: Files>(
+    alloc: Global,
+    files: &mut F,
+    text: &str,
+    bytes: &[u8],
+) -> Result<Clock, Failure>
+    ensures read { file_clock (F.held files.old) text.now bytes.now result }
+    ensures same { F.held files.new ≡ F.held files.old }
 {
-    let clock = clock_of_bytes(alloc, bytes)?;
-    Ok(ZoneClock {
+    let clock = clock_of_bytes(alloc, bytes);
+    naming_zone(alloc, files, clock, text)
+}
+
+// Returns the zone of a file, with this name if it has one.
+fn zone_of_file(name: Option<Text>, clock: Clock) -> ZoneClock
+    ensures { result ≡ zone_of_file name clock }
+{
+    ZoneClock {
         name,
         is_of_file: true,
         clock,
         is_unknown: false,
-    })
+    }
 }
 
 /// Returns a copy of a text.

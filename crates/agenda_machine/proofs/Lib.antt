@@ -1,3 +1,5 @@
+pub mod JobFileLaws
+pub mod JobFileLemmas
 pub mod LineLemmas
 pub mod PlaceLaws
 pub mod PlaceLemmas

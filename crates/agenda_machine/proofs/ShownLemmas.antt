@@ -4,7 +4,8 @@ use Rattle.std.proofs.lemmas.Grind.{flat_map-append}
 use Rattle.std.proofs.lemmas.Str.{chars-append}
 use Rattle.std.specs.List.{flat_map}
 use Rattle.std.specs.Str.{IsUtf8, chars}
-use Rattle.agenda_machine.specs.Shown.{below, shown, shown_char}
+use Rattle.plan_write.specs.Shown.{shown, shown_char}
+use Rattle.agenda_machine.specs.Paths.{below}
 
 -- the slash is shown as it is
 slash : (path : List ℕ) → shown (codes "/" ++ path) ≡ codes "/" ++ shown path

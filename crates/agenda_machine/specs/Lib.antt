@@ -1,6 +1,7 @@
-pub mod Shown
+pub mod Paths
 pub mod Listing
 pub mod Reports
 pub mod Monotonic
+pub mod JobFiles
 pub mod Places
 pub mod Root

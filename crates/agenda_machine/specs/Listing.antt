@@ -6,7 +6,8 @@ use Rattle.plan_parts.specs.Files.{FileBytes}
 use Rattle.plan_parts.specs.Parts.{files_of}
 use Rattle.plan_rules.specs.SourceKind.{option_of}
 use Rattle.plan_write.specs.Json.{json_string}
-use Rattle.agenda_machine.specs.Shown.{below, shown}
+use Rattle.plan_write.specs.Shown.{shown}
+use Rattle.agenda_machine.specs.Paths.{below}
 
 -- a line of text: the kind, the name and the path
 abbrev pub part_line : (kind name path : List ℕ) → List ℕ

@@ -10,7 +10,8 @@ use Rattle.plan_parts.specs.Files.{FileBytes, texts_of}
 use Rattle.plan_parts.specs.Origin.{origin_of}
 use Rattle.plan_parts.specs.Parts.{files_of, text_of}
 use Rattle.plan_rules.specs.declared.SourceKind.{SourceKind}
-use Rattle.agenda_machine.specs.Shown.{below, shown}
+use Rattle.plan_write.specs.Shown.{shown}
+use Rattle.agenda_machine.specs.Paths.{below}
 
 -- ---- what `check` reads
 

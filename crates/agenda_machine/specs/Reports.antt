@@ -7,7 +7,8 @@ use Rattle.plan_machine.specs.declared.Why.{Why}
 use Rattle.plan_machine.specs.declared.Why.TheVariants.{NotReadable, NotUtf8}
 use Rattle.plan_timers.specs.Reports.{unplanned_text, why_text}
 use Rattle.agenda_machine.specs.declared.reports.Reports.{Reports}
-use Rattle.agenda_machine.specs.Shown.{below, shown}
+use Rattle.plan_write.specs.Shown.{shown}
+use Rattle.agenda_machine.specs.Paths.{below}
 
 -- ---- the lines
 

@@ -1,18 +1,20 @@
 //! The texts of what is found on a machine: its sources, what is skipped or isn't planned there, and where the findings
-//! of `check` are.
+//! of `check` are, and its jobs.
 //!
-//! The machine comes from plan_machine. `shown` says how people are shown paths and names. Read `listing` first, then
+//! The machine comes from plan_machine. `paths` says how people are shown paths below its root. Read `listing` first, then
 //! `reports`. `monotonic` finds the timers that start by monotonic settings alone. `places` passes the sources on to `check`,
-//! and finds the file of each finding. `root` has the path of the machine's root.
+//! and finds the file of each finding; `job_files` finds that of each job. `root` has the path of the machine's root.
 #![tactic(auto)]
 
+mod job_files;
 mod listing;
 mod monotonic;
+mod paths;
 mod places;
 mod reports;
 mod root;
-mod shown;
 
+pub use job_files::{files_of_jobs, lines_are_in_names};
 pub use listing::write_sources;
 pub use monotonic::with_monotonic;
 pub use places::{located, paths_of, places_have_paths, sources_of};

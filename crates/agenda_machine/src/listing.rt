@@ -6,9 +6,9 @@ ghost use Rattle.plan_streams.specs.Stream.{Puts};
 ghost use Rattle.plan_streams.specs.Writer.{Takes};
 ghost use Rattle.plan_write.specs.Json.{json_string};
 ghost use Rattle.agenda_machine.specs.Listing.{drop_ins, part_line, part_object, part_text, source_text, sources_text};
-ghost use Rattle.agenda_machine.specs.Shown.{below};
+ghost use Rattle.agenda_machine.specs.Paths.{below};
 
-use crate::shown::put_path;
+use crate::paths::put_path;
 use plan_machine::MachineSource;
 use plan_parts::Part;
 use plan_streams::{Stream, TextWriter, WriteFault};

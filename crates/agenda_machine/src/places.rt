@@ -2,9 +2,9 @@
 
 ghost use Rattle.std.specs.Prelude.{◌≡◌, ◌++◌, IfOk, OnOk, get_or, map, slice_get};
 ghost use Rattle.agenda_machine.specs.Places.{PlacesHavePaths, counts_before, found_in, located_at, path_in, paths_of, source_of, source_paths};
-ghost use Rattle.agenda_machine.specs.Shown.{below};
+ghost use Rattle.agenda_machine.specs.Paths.{below};
 
-use crate::shown::push_path;
+use crate::paths::push_path;
 use agenda_sources::{Bytes, Found, Source, SourcePath, SourcePaths, Sources};
 use plan_machine::MachineSource;
 use plan_texts::Text;
@@ -81,7 +81,7 @@ fn add_paths(
 }
 
 // Returns a path below a root: as it is for JSON, and otherwise as people are shown it.
-fn path_in(alloc: Global, root: &str, path: &str, json: bool) -> Result<Text, AllocError>
+pub(crate) fn path_in(alloc: Global, root: &str, path: &str, json: bool) -> Result<Text, AllocError>
     ensures { IfOk result (λ text. text ≡ path_in json (below root.now path.now)) }
 {
     let mut text = String::new(alloc);

@@ -6,12 +6,14 @@ ghost use Rattle.plan_streams.specs.Stream.{Puts};
 ghost use Rattle.plan_streams.specs.Writer.{Takes};
 ghost use Rattle.agenda_machine.specs.Reports.{has_line, is_incomplete, is_unreadable, no_daemon, no_zone, reports_text, skipped_line, unplanned_line};
 ghost use Rattle.plan_timers.specs.Reports.{unplanned_text, why_text};
-ghost use Rattle.agenda_machine.specs.Shown.{below, shown};
+ghost use Rattle.plan_write.specs.Shown.{shown};
+ghost use Rattle.agenda_machine.specs.Paths.{below};
 
-use crate::shown::{put_path, put_shown};
+use crate::paths::put_path;
 use plan_machine::{NotPlanned, Skipped, Unplanned, Why};
 use plan_streams::{Stream, TextWriter, WriteFault};
 use plan_texts::Text;
+use plan_write::put_shown;
 
 /// What is reported of a machine.
 #[derive(Drop)]

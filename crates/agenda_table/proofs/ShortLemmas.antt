@@ -1,13 +1,13 @@
 -- No row has more than 5 cells.
-use Rattle.std.proofs.Common.{◌≡◌, ℕ, Bool, true, false, List, [], ◌∷◌, ◌++◌, length, refl, ◌∙◌}
-use Rattle.std.specs.Prelude.{◌-◌, codes, nat_le, slice_get, Option, None, Some}
+use Rattle.std.proofs.Common.{ℕ, Bool, true, false, List, [], ◌∷◌, ◌++◌, length, refl, ◌∙◌}
+use Rattle.std.specs.Prelude.{◌-◌, codes, if◌then◌else◌, nat_le, nat_lt, slice_get, Option, None, Some}
 use Rattle.std.specs.List.{flat_map, list_all}
 use Rattle.std.proofs.lemmas.Bool.{and_from}
 use Rattle.std.proofs.lemmas.List.Folds.{list_all-append}
 use Rattle.plan_write.specs.Upcoming.{start_or_none}
 use Rattle.agenda_table.specs.Layout.{AreShort}
 use Rattle.agenda_table.specs.Times.{length_text}
-use Rattle.agenda_table.specs.Rows.{JobTexts, LookParts, distance_head, distance_if, gap_cells, gap_row, gap_rows, job_cells, job_head, job_row, job_rows, later_text, latest_or_word, rows_of_job, start_text, start_or_word, text_if}
+use Rattle.agenda_table.specs.Rows.{JobTexts, LookParts, distance_head, distance_if, gap_cells, gap_row, gap_rows, job_cells, job_head, job_rows, later_text, latest_or_word, none_rows, rows_of_job, rows_of_start, start_cells, start_rows, start_text, start_or_word, text_if}
 
 job_cells_short : (start : List ℕ) (latest distance : Option (List ℕ)) (name runs : List ℕ) → AreShort (job_cells start latest distance name runs ∷ [])
 job_cells_short start None None name runs = refl
@@ -61,3 +61,29 @@ gaps_short look gaps =
     both_short (gap_cells (codes "START") (codes "END") (distance_head look.origin) (codes "LENGTH") ∷ [])
     (flat_map (λ gap. gap_row look gap ∷ []) gaps)
     (gap_cells_short (codes "START") (codes "END") (distance_head look.origin) (codes "LENGTH")) (later_gaps_short look gaps)
+
+start_cells_short : (start : List ℕ) (distance : Option (List ℕ)) → AreShort (start_cells start distance ∷ [])
+start_cells_short start None = refl
+start_cells_short start (Some distance) = refl
+
+start_short : (look : LookParts) (at : Option ℕ) → AreShort (rows_of_start look at)
+start_short look None = refl
+start_short look (Some n) = start_cells_short (start_text look n) (distance_if look.origin (Some n))
+
+later_starts_short : (look : LookParts) (starts : List ℕ) → AreShort (flat_map (λ n. rows_of_start look (start_or_none n)) starts)
+later_starts_short look [] = refl
+later_starts_short look (n ∷ starts) =
+    both_short (rows_of_start look (start_or_none n)) (flat_map (λ n. rows_of_start look (start_or_none n)) starts)
+    (start_short look (start_or_none n)) (later_starts_short look starts)
+
+none_short : (fewer : Bool) → AreShort (if fewer then start_cells (codes "none") None ∷ [] else [])
+none_short true = refl
+none_short false = refl
+
+-- the rows of the next starts of a rule
+pub starts_short : (look : LookParts) (count : ℕ) (starts : List ℕ) → AreShort (start_rows look count starts)
+starts_short look count starts =
+    let rows = flat_map (λ n. rows_of_start look (start_or_none n)) starts in
+    both_short (start_cells (codes "START") (distance_head look.origin) ∷ []) (rows ++ none_rows count (length starts))
+    (start_cells_short (codes "START") (distance_head look.origin))
+    (both_short rows (none_rows count (length starts)) (later_starts_short look starts) (none_short (nat_lt (length starts) count)))

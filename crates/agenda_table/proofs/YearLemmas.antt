@@ -25,7 +25,7 @@ one_in_years (x ∷ xs) zero d years lt =
 one_in_years (x ∷ xs) (suc i) d years lt =
     one_in_years xs i d (and_parts (nat_le x end_second) (list_all (λ (n : ℕ). nat_le n end_second) xs) years).1 (omega arith)
 
-single : (n : ℕ) → n ≤ end_second → AreInYears (n ∷ [])
+pub single : (n : ℕ) → n ≤ end_second → AreInYears (n ∷ [])
 single n years = and_from (nat_le n end_second) true (le-leb n end_second years) refl
 
 latest_in_years : (delay n : ℕ) → latest_start delay n ≤ end_second

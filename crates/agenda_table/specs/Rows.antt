@@ -1,5 +1,5 @@
 -- The rows of tables: a row is a list of cells, and a cell a list of characters. The head is the first row (agenda).
-use Rattle.std.specs.Prelude.{ℕ, ◌-◌, ◌==◌, Bool, true, false, if◌then◌else◌, List, [], ◌∷◌, ◌++◌, chars, codes, slice_get, Option, None, Some, option_map, refl}
+use Rattle.std.specs.Prelude.{ℕ, ◌-◌, ◌==◌, nat_lt, Bool, true, false, if◌then◌else◌, List, [], ◌∷◌, ◌++◌, length, chars, codes, slice_get, Option, None, Some, option_map, refl}
 use Rattle.std.specs.Coded.{Coded, code_by, coded×, coded_list, coded_option, coded_ℕ}
 use Rattle.std.specs.List.{flat_map, list_any}
 use Rattle.arrayvec.specs.ArrayString.{ArrayString}
@@ -144,3 +144,24 @@ abbrev pub gap_rows : LookParts → (gaps : List (ℕ × ℕ)) → List (List (L
 gap_rows look gaps =
     gap_cells (codes "START") (codes "END") (distance_head look.origin) (codes "LENGTH")
     ∷ flat_map (λ gap. gap_row look gap ∷ []) gaps
+
+-- ---- the next starts of a rule
+
+-- the cells of these texts, in the columns of starts of a rule
+abbrev pub start_cells : (start : List ℕ) → (distance : Option (List ℕ)) → List (List ℕ)
+start_cells start distance = chars start ∷ cells_of (option_map chars distance)
+
+-- the row of a start, if it is one
+abbrev pub rows_of_start : LookParts → (at : Option ℕ) → List (List (List ℕ))
+rows_of_start look None = []
+rows_of_start look (Some n) = start_cells (start_text look n) (distance_if look.origin (Some n)) ∷ []
+
+-- the row after the last start of a rule, if there are fewer starts than requested
+abbrev pub none_rows : (count found : ℕ) → List (List (List ℕ))
+none_rows count found = if nat_lt found count then start_cells (codes "none") None ∷ [] else []
+
+-- the rows of the next starts of a rule, of which so many are requested
+abbrev pub start_rows : LookParts → (count : ℕ) → (starts : List ℕ) → List (List (List ℕ))
+start_rows look count starts =
+    start_cells (codes "START") (distance_head look.origin)
+    ∷ (flat_map (λ n. rows_of_start look (start_or_none n)) starts ++ none_rows count (length starts))

@@ -3,7 +3,7 @@
 //! The local times of a table are sorted by their date, and then by the second. So two times between which the clock is
 //! put back have neighbours between which it is.
 
-ghost use Rattle.std.specs.Prelude.{◌≡◌, ◌≤◌, ◌++◌, ◌||◌, ◌&&◌, ◌==◌, ◌+◌, ◌/◌, ℕ, List, IfOk, OnOk, map, nat_lt, slice_get};
+ghost use Rattle.std.specs.Prelude.{◌≡◌, ◌≤◌, ◌∷◌, ◌++◌, ◌||◌, ◌&&◌, ◌==◌, ◌+◌, ◌/◌, ℕ, List, IfOk, OnOk, map, nat_lt, slice_get};
 ghost use Rattle.std.specs.List.{flat_map};
 ghost use Rattle.plan_sets.specs.Limits.{end_second};
 ghost use Rattle.plan_write.specs.Upcoming.{start_or_none};
@@ -71,6 +71,30 @@ pub fn dates_of_gaps(
         push_time(&mut keys, clock, *from, &mut passed)?;
         push_time(&mut keys, clock, *to, &mut passed)?;
     }
+    let dates = dates_of(alloc, clock, keys)?;
+    Ok(dates)
+}
+
+/// Returns the numbers of the dates, from 0 for 1970-01-01, on which the times of starts of a rule have their offset, and
+/// that of the last line, after which they are.
+///
+/// # Errors
+///
+/// `AllocError` if an allocation fails.
+pub fn dates_of_starts(
+    alloc: Global,
+    clock: &Clock,
+    after: u64,
+    starts: &[u64],
+) -> Result<Vec<u64>, AllocError>
+    requires after { after ≤ end_second }
+    requires starts { AreInYears starts.now }
+    ensures { IfOk result (λ dates. AreDatesOf clock.now (after ∷ starts.now) dates.items) }
+{
+    let mut keys = Vec::new(alloc);
+    let mut passed = 0;
+    push_time(&mut keys, clock, after, &mut passed)?;
+    push_times(&mut keys, clock, starts, &mut passed)?;
     let dates = dates_of(alloc, clock, keys)?;
     Ok(dates)
 }

@@ -1,10 +1,10 @@
 //! The table that `agenda machine` prints of an answer: lines of cells, with blanks between them.
 //!
 //! `table` reads the rows of an answer twice: for the widths of the columns, and for the lines. `jobs` has the rows of an
-//! agenda and those of next starts, and `gaps` those of gaps. `last` makes the last line. `line` makes a line of a row, and
-//! `room` cuts it. `time` and `short` have the texts of cells: times, with what a clock shows then (`face`), and lengths.
-//! `look` says how the times of a table are shown, and `dates` on which dates they have their offset. Read `table` first,
-//! then `jobs`.
+//! agenda and those of next starts of jobs, `gaps` those of gaps, and `starts` those of the next starts of a rule. `last`
+//! makes the last line. `line` makes a line of a row, and `room` cuts it. `time` and `short` have the texts of cells: times,
+//! with what a clock shows then (`face`), and lengths. `look` says how the times of a table are shown, and `dates` on which
+//! dates they have their offset. Read `table` first, then `jobs`.
 #![tactic(auto)]
 
 mod cell;
@@ -17,15 +17,17 @@ mod line;
 mod look;
 mod room;
 mod short;
+mod starts;
 mod table;
 mod time;
 mod widths;
 
 pub use cell::Cell;
-pub use dates::{dates_of_gaps, dates_of_jobs};
+pub use dates::{dates_of_gaps, dates_of_jobs, dates_of_starts};
 pub use gaps::{GapRows, Gaps, write_gap_table};
 pub use jobs::{JobCells, JobRows, write_job_table};
 pub use last::{after_text, span_text};
 pub use line::Frame;
 pub use look::Look;
+pub use starts::{StartRows, write_start_table};
 pub use table::{RowSink, Rows, write_table};

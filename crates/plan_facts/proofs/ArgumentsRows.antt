@@ -15,6 +15,7 @@ use Rattle.agenda_arguments.specs.declared.ask.JobsRequest.{JobsRequest}
 use Rattle.agenda_arguments.specs.declared.ask.MachineGoal.{MachineGoal}
 use Rattle.agenda_arguments.specs.declared.ask.MachineGoal.TheVariants as machine_goal
 use Rattle.agenda_arguments.specs.declared.ask.MachineJobs.{MachineJobs}
+use Rattle.agenda_arguments.specs.declared.ask.MachineNext.{MachineNext as NextParts}
 use Rattle.agenda_arguments.specs.declared.ask.TableRequest.TheVariants as table_request
 use Rattle.agenda_arguments.specs.declared.ask.MachineQuestion.{MachineQuestion}
 use Rattle.agenda_arguments.specs.declared.ask.MachineQuestion.TheVariants as question
@@ -221,6 +222,7 @@ abbrev asks_jobs : MachineGoal → (delays : Bool) → MachineJobs
 asks_jobs goal delays = record {
   goal = goal;
   zone = None;
+  except = [];
   delays = delays;
   strict = false;
   format = format_from false true;
@@ -267,6 +269,15 @@ machine_jobs_rows : RowsHold asked_in
       codes "agenda machine --strict",
       asks_here (record (asks_jobs (machine_goal.Upcoming (codes "now")) false) { strict = true }),
     )
+    -- the names of jobs that are left out, in the order of the arguments
+    ∷ (
+      codes "agenda machine --except b --except=a:1",
+      asks_here (record (asks_jobs (machine_goal.Upcoming (codes "now")) false) { except = codes "b" ∷ codes "a:1" ∷ [] }),
+    )
+    ∷ (
+      codes "agenda machine plan --except a",
+      asks_here (record (asks_jobs (machine_goal.Plan from_now machine_sizes) false) { except = codes "a" ∷ [] }),
+    )
     ∷ (codes "agenda machine plan", asks_here (asks_jobs (machine_goal.Plan from_now machine_sizes) false))
     ∷ (
       codes "agenda machine plan --since s --upto u --limit 5 --zone z",
@@ -285,9 +296,19 @@ machine_jobs_rows : RowsHold asked_in
 unfolding words asked_by clap_on_literals agenda_on_literals
 machine_jobs_rows = refl
 
--- the next five starts of a rule, in the zone of the machine, and as text in local times
+-- the next five starts of a rule, in the zone of the machine, in local times, and as a table on a terminal
+abbrev starts_of : Asked → NextParts
+starts_of rule = record {
+  rule = rule;
+  after = codes "now";
+  count = 5;
+  zone = None;
+  format = format_from false true;
+  table = table_request.OnTerminal;
+}
+
 abbrev asks_starts : Asked → Result Ask ArgumentsFault
-asks_starts rule = Ok (MachineNext (record { rule = rule; after = codes "now"; count = 5; zone = None; format = format_from false true }))
+asks_starts rule = Ok (MachineNext (starts_of rule))
 
 machine_next_rows : RowsHold asked_in
     ((codes "agenda machine next @daily", asks_starts (Cron (codes "@daily")))
@@ -300,7 +321,16 @@ machine_next_rows : RowsHold asked_in
         count = 2;
         zone = Some (codes "UTC");
         format = format_from true false;
+        table = table_request.Never;
       })),
+    )
+    ∷ (
+      codes "agenda machine next --table daily",
+      Ok (MachineNext (record (starts_of (Event (codes "daily"))) { table = table_request.Always })),
+    )
+    ∷ (
+      codes "agenda machine next daily --text",
+      Ok (MachineNext (record (starts_of (Event (codes "daily"))) { table = table_request.Never })),
     )
     ∷ [])
 unfolding words asked_by clap_on_literals agenda_on_literals
@@ -388,6 +418,8 @@ usage_errors : list_all (λ line. is_usage_error (asked_in line))
     ∷ codes "agenda machine --utc --zone z"
     ∷ codes "agenda machine plan --after t"
     ∷ codes "agenda machine quiet --delays"
+    ∷ codes "agenda machine quiet --except"
+    ∷ codes "agenda machine check --except a"
     ∷ codes "agenda machine check --zone z --utc"
     ∷ codes "agenda machine sources --utc"
     ∷ codes "agenda machine sources --event-zones"
@@ -395,6 +427,7 @@ usage_errors : list_all (λ line. is_usage_error (asked_in line))
     ∷ codes "agenda machine next daily weekly"
     ∷ codes "agenda machine next daily --root r"
     ∷ codes "agenda machine next daily --zone z --utc"
+    ∷ codes "agenda machine next daily --json --table"
     -- `machine` isn't the first argument
     ∷ codes "agenda -- machine sources"
     ∷ codes "agenda sources"

@@ -1,10 +1,10 @@
 -- Jobs by their names: the entries of a map, whose keys are the names of its values.
 -- For `distinct` of `Jobs::len`, for `number_of` and for `add`. `KeysAreNames` is the type's invariant. By it the position of a
 -- key is that of a job, since a search in a mapped list stops at the same position (`position-map`).
-use Rattle.std.proofs.Common.{◌≡◌, ℕ, Bool, false, List, [], ◌∷◌, ◌++◌, map, Option, None, is_some, String, Global, string_bytes, position, ap, sym, ◌∙◌, subst, arith}
+use Rattle.std.proofs.Common.{◌≡◌, ℕ, Bool, true, false, cond, List, [], ◌∷◌, ◌++◌, map, Option, None, is_some, String, Global, string_bytes, position, refl, ap, sym, ◌∙◌, subst, arith}
 use Rattle.std.proofs.lemmas.Bool.Decides.{nat_tests}
 use Rattle.std.proofs.lemmas.List.{map-append}
-use Rattle.std.specs.List.{IsDistinct, AllByRecursion}
+use Rattle.std.specs.List.{IsDistinct, AllByRecursion, filter}
 use Rattle.std.specs.Map.{keys_of, values_of}
 use Rattle.std.specs.Str.{bytes_eq}
 use Rattle.std.specs.String.{string_eq}
@@ -70,3 +70,29 @@ KeysAreNames-push es key job same named =
     ∙ (λ i. same i ++ named i ∷ [])
     ∙ sym (map-append (λ j. j.name) (values_of es) (job ∷ []))
     ∙ ap (map (λ j. j.name)) (sym (map-append (λ e. e.1) es ((key, job) ∷ [])))
+
+-- an entry is left out or kept
+kept_key :
+    (is : Bool) (e : String Global × JobParts) (es : List (String Global × JobParts)) → string_bytes e.0 ≡ e.1.name → KeysAreNames es →
+    KeysAreNames (cond is (e ∷ es) es)
+kept_key true e es named same = λ k. named k ∷ same k
+kept_key false e es named same = same
+
+kept_value :
+    (is : Bool) (e : String Global × JobParts) (es : List (String Global × JobParts)) (jobs : List JobParts) → values_of es ≡ jobs →
+    values_of (cond is (e ∷ es) es) ≡ cond is (e.1 ∷ jobs) jobs
+kept_value true e es jobs same = ap (λ (all : List JobParts). e.1 ∷ all) same
+kept_value false e es jobs same = same
+
+-- where some entries are left out, the keys of the others are still their names
+pub KeysAreNames-filter :
+    (test : JobParts → Bool) (es : List (String Global × JobParts)) → KeysAreNames es → KeysAreNames (filter (λ e. test e.1) es)
+KeysAreNames-filter test [] same = same
+KeysAreNames-filter test (e ∷ es) same =
+    kept_key (test e.1) e (filter (λ e. test e.1) es) (cc) (KeysAreNames-filter test es (cc))
+
+-- their values are the values that pass the test
+pub values_of-filter :
+    (test : JobParts → Bool) (es : List (String Global × JobParts)) → values_of (filter (λ e. test e.1) es) ≡ filter test (values_of es)
+values_of-filter test [] = refl
+values_of-filter test (e ∷ es) = kept_value (test e.1) e (filter (λ e. test e.1) es) (filter test (values_of es)) (values_of-filter test es)

@@ -7,7 +7,7 @@ use Rattle.plan_texts.specs.WholeLines.{whole_lines, trimmed}
 use Rattle.plan_rules.specs.LineFaults.{TextReading}
 use Rattle.plan_rules.specs.FileText.{text_reading}
 use Rattle.plan_rules.specs.Timer.{effects_from, has_timer, inside_after, section_name}
-use Rattle.plan_rules.specs.TimerEntries.{Draft, EventCount, TimerState, count_from, draft_after, draft_from, line_in, state_after, steps_from, timer_lines}
+use Rattle.plan_rules.specs.TimerEntries.{EventCount, TimerState, count_from, state_after, timer_lines}
 
 -- the remaining lines begin with the next one
 pub lines_more :
@@ -32,15 +32,6 @@ pub count_step :
     count_from after.count (effects_from after.inside more) ≡ whole
 count_step state after line more whole after_is so_far =
     ap (λ (s : TimerState). count_from s.count (effects_from s.inside more)) after_is ∙ so_far
-
--- what the lines say of the job
-pub draft_step :
-    (before next : Draft) (state after : TimerState) (line : ℕ × List ℕ) (more : List (ℕ × List ℕ)) (whole : Draft) →
-    next ≡ draft_after before (line_in state line) → after ≡ state_after state line.1 →
-    draft_from before (steps_from state.zones state.count (effects_from state.inside (line ∷ more))) ≡ whole →
-    draft_from next (steps_from after.zones after.count (effects_from after.inside more)) ≡ whole
-draft_step before next state after line more whole is after_is so_far =
-    (λ i. draft_from (is i) (steps_from (after_is i).zones (after_is i).count (effects_from (after_is i).inside more))) ∙ so_far
 
 -- the whole lines of a file, by its text
 pub lines_of_file :

@@ -1,6 +1,6 @@
 -- What contracts say of the list of jobs: the jobs are in the order in which they were added, and no two have the same name.
-use Rattle.std.specs.Prelude.{ℕ, Bool, List, map, position, Option}
-use Rattle.std.specs.List.{IsDistinct}
+use Rattle.std.specs.Prelude.{ℕ, Bool, not, List, filter, map, position, Option}
+use Rattle.std.specs.List.{IsDistinct, list_any}
 use Rattle.std.specs.Str.{bytes_eq}
 use Rattle.plan_rules.specs.Job.{JobParts}
 use Rattle.plan_rules.specs.declared.jobs.AddFault.{AddFault}
@@ -17,6 +17,14 @@ number_of name jobs = position (is_named name) jobs
 -- no two jobs have the same name
 abbrev pub HaveDistinctNames : List JobParts → Type 0
 HaveDistinctNames jobs = IsDistinct bytes_eq (map (λ job. job.name) jobs)
+
+-- whether a job has none of these names
+abbrev pub is_other : (names : List (List ℕ)) → JobParts → Bool
+is_other names job = not (list_any (λ name. bytes_eq name job.name) names)
+
+-- the jobs that have none of these names, in the same order (agenda)
+abbrev pub without : (names : List (List ℕ)) → List JobParts → List JobParts
+without names jobs = filter (is_other names) jobs
 
 -- the job that an error gives back
 abbrev pub job_of : AddFault → JobParts

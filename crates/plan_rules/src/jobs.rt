@@ -6,11 +6,14 @@ ghost use Rattle.plan_rules.specs.Limits.{most_jobs};
 ghost use Rattle.plan_rules.specs.Job.{JobParts};
 ghost use Rattle.plan_rules.specs.Delays.{first_changed, nominal};
 ghost use Rattle.plan_rules.specs.Zone.{first_in, jobs_in};
-ghost use Rattle.plan_rules.specs.Jobs.{number_of, HaveDistinctNames, job_of};
+ghost use Rattle.std.specs.List.{list_any};
+ghost use Rattle.std.specs.Str.{bytes_eq};
+ghost use Rattle.plan_rules.specs.Jobs.{number_of, HaveDistinctNames, is_other, job_of, without};
 
 use crate::job::Job;
 use indexmap::IndexMap;
 use plan_clock::Clock;
+use plan_texts::Text;
 use std::alloc::{AllocError, AllocFailed, Global};
 use std::marker::Model;
 use thiserror::Error;
@@ -148,6 +151,19 @@ impl Jobs {
         job.drop_delay();
     }
 
+    /// Returns the jobs that have none of these names, in the same order.
+    pub fn without(self, names: &[Text]) -> Jobs
+        ensures { result ≡ without names.now self }
+    {
+        let mut jobs = self;
+        jobs.by_name.retain(
+            |_name: &String, job: &mut Job| -> bool
+                ensures { (result ≡ is_other names.entry.now job.old) × (job.new ≡ job.old) }
+            { !is_among(job.name(), names) },
+        );
+        jobs
+    }
+
     /// Adds a job after the others, and returns its number.
     ///
     /// # Errors
@@ -179,4 +195,11 @@ impl Jobs {
             Err(AllocFailed { value: (_, job) }) => Err(AddFault::NoMemory(job)),
         }
     }
+}
+
+// Returns whether a name is one of these.
+fn is_among(name: &str, names: &[Text]) -> bool
+    ensures { result ≡ list_any (λ other. bytes_eq other name.now) names.now }
+{
+    names.iter().any(|other| other.as_str() == name)
 }

@@ -2,12 +2,12 @@
 
 use crate::collector::user_jobs;
 use plan_collect::{CollectFault, PlanFault, Sizes, Span};
+use plan_rules::Jobs;
 use plan_threads::{Gate, plan};
 use std::process::Abort;
 use std::sync::Wait;
 use std::sync::atomic::AtomicU64;
 use std::sync::atomic::Ordering::SeqCst;
-use std::test::Fail;
 use std::thread;
 use std::thread::Threads;
 
@@ -43,12 +43,12 @@ const TEN: &str =
 // at the same time, and that each arrives once. `all` has the digit 1 for each planner.
 fn assert_planned(
     rt: &(impl Abort + AllocGlobal + Threads + Wait + Sync),
+    jobs: &Jobs,
     all: u64,
     limit: u64,
     wanted: Result<usize, PlanFault>,
-) -> Result<(), Fail> {
-    let first_day = Span::new(1_704_067_200, 1_704_153_600)?;
-    let jobs = user_jobs(rt.alloc(), TEN).expect(rt, "jobs");
+) {
+    let first_day = Span::new(1_704_067_200, 1_704_153_600).expect(rt, "a span");
     let gate = Meeting {
         arrived: AtomicU64::new(0),
         all,
@@ -59,25 +59,24 @@ fn assert_planned(
         room: 1,
         limit,
     };
-    let planned = plan(rt, rt.alloc(), &jobs, first_day, sizes, &gate);
-    assert!(rt;
-        planned.map(|agenda| agenda.len()) == wanted,
-        "limit {limit}"
-    );
+    let len = match plan(rt, rt.alloc(), jobs, first_day, sizes, &gate) {
+        Ok(agenda) => Ok(agenda.len()),
+        Err(fault) => Err(fault),
+    };
+    assert!(rt; len == wanted);
     assert!(rt; gate.arrived.load(SeqCst) == all);
     assert!(rt; gate.met.load(SeqCst) == u64::from(all.count_ones()));
-    Ok(())
 }
 
 // If a message has one start too many, the plan fails, but planners whose rings are full are still heard until
 // they end.
 #[test]
-fn planners_run_at_the_same_time_and_an_error_ends_the_plan(rt: HostRuntime) -> Result<(), Fail> {
+fn planners_run_at_the_same_time_and_an_error_ends_the_plan(rt: HostRuntime) {
+    let jobs = user_jobs(rt.alloc(), TEN).expect(&rt, "jobs");
     let too_many = Err(PlanFault::Collect(CollectFault::TooMany));
     for all in [0x1, 0x11, 0x1111_1111] {
-        for (limit, wanted) in [(10, Ok(10)), (9, too_many), (1, too_many)] {
-            assert_planned(&rt, all, limit, wanted)?;
-        }
+        assert_planned(&rt, &jobs, all, 10, Ok(10));
+        assert_planned(&rt, &jobs, all, 9, too_many);
+        assert_planned(&rt, &jobs, all, 1, too_many);
     }
-    Ok(())
 }

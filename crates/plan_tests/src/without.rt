@@ -6,9 +6,8 @@ ghost use Rattle.plan_collect.specs.Agenda.{IsOfJobs};
 
 use crate::collector::user_jobs;
 use crate::ends::ends_of_one;
-use agenda_faults::{Failure, RunFault, fault_line};
 use plan_collect::{Agenda, Span};
-use plan_mailbox::{Core, Post, Reply, Rings, Step};
+use plan_mailbox::{Core, Post, Reply, Rings};
 use plan_rules::{EventZones, Jobs, timer};
 use plan_serial::plan_serial;
 use plan_write::{Format, LineEnds, write_agenda};
@@ -31,38 +30,42 @@ fn assert_ended(rt: &(impl Abort + AllocGlobal), ended: bool) {
     assert!(rt; Box::new(rt.alloc(), 0_u8).is_err() == ended);
 }
 
-// Checks the replies of a mailbox of two senders with a capacity of one message.
-fn assert_replies<P: Post<char>>(rt: &impl Abort, post: &mut P) {
+// Checks the replies to the sends of a new mailbox of two senders with a capacity of one message. Closes sender 0.
+fn assert_sends<P: Post<char>>(rt: &impl Abort, post: &mut P) {
     assert!(rt; post.is_new() && post.senders() == 2 && post.room() == 1);
-    for (step, wanted) in [
-        (Step::Send(0, 'a'), Reply::Sent),
-        (Step::Send(0, 'b'), Reply::Full('b')),
-        (Step::Send(2, 'c'), Reply::NoSender('c')),
-        (Step::Close(0), Reply::Shut),
-        (Step::Send(0, 'd'), Reply::Closed('d')),
-        (Step::Take, Reply::Took(0, 'a')),
-        (Step::Take, Reply::Nothing),
-        (Step::Close(1), Reply::Shut),
-        (Step::Take, Reply::Ended),
-    ] {
-        let reply = match step {
-            Step::Send(sender, message) => post.send(sender, message),
-            Step::Take => post.take(),
-            Step::Close(sender) => post.close(sender),
-        };
-        assert!(rt; reply == wanted);
-    }
+    assert!(rt; post.send(0, 'a') == Reply::Sent);
+    assert!(rt; post.send(0, 'b') == Reply::Full('b'));
+    assert!(rt; post.send(2, 'c') == Reply::NoSender('c'));
+    assert!(rt; post.close(0) == Reply::Shut);
+    assert!(rt; post.send(0, 'd') == Reply::Closed('d'));
+}
+
+// Checks the replies to the takes that follow.
+fn assert_takes<P: Post<char>>(rt: &impl Abort, post: &mut P) {
+    assert!(rt; post.take() == Reply::Took(0, 'a'));
+    assert!(rt; post.take() == Reply::Nothing);
+    assert!(rt; post.close(1) == Reply::Shut);
+    assert!(rt; post.take() == Reply::Ended);
+}
+
+// Checks that a mailbox of two senders with a capacity of one message replies without memory.
+fn assert_replies<P: Post<char>>(rt: &(impl Abort + AllocGlobal), post: &mut P) {
+    let ended = ends(rt.alloc());
+    assert_sends(rt, post);
+    assert_takes(rt, post);
+    assert_ended(rt, ended);
 }
 
 #[test]
-fn mailboxes_reply(rt: HostRuntime) -> Result<(), Fail> {
-    let mut core = Core::new(rt.alloc(), 2, 1)?;
-    let mut rings = Rings::new(rt.alloc(), 2, 1)?;
-    let ended = ends(rt.alloc());
+fn a_core_replies(rt: HostRuntime) {
+    let mut core = Core::new(rt.alloc(), 2, 1).expect(&rt, "memory");
     assert_replies(&rt, &mut core);
+}
+
+#[test]
+fn rings_reply(rt: HostRuntime) {
+    let mut rings = Rings::new(rt.alloc(), 2, 1).expect(&rt, "memory");
     assert_replies(&rt, &mut rings);
-    assert_ended(&rt, ended);
-    Ok(())
 }
 
 #[test]
@@ -132,45 +135,50 @@ fn assert_written(
     assert_lines(rt, &out, text);
 }
 
-// Returns the job of a crontab, with a quote in its command, and a timer. Both start each day.
-fn daily_jobs(alloc: Global) -> Option<Jobs> {
+// Adds a timer that starts each day.
+fn add_daily(rt: &(impl Abort + AllocGlobal), jobs: &mut Jobs) {
     let zones = EventZones::utc_alone();
-    let daily = timer(alloc, "b.timer", b"[Timer]\nOnCalendar=daily\n", &zones).ok()?;
-    let mut jobs = user_jobs(alloc, "@daily \"\n")?;
-    jobs.add(daily).ok()?;
-    Some(jobs)
+    let daily = timer(
+        rt.alloc(),
+        "b.timer",
+        b"[Timer]\nOnCalendar=daily\n",
+        &zones,
+    );
+    assert!(rt; jobs.add(daily.expect(rt, "a timer")).is_ok());
 }
 
-// A timer may start up to a minute late if it has no other accuracy. In JSON a quote in a command has an escape.
+// Returns the job of a crontab, with a quote in its command, and a timer. Both start each day.
+fn daily_jobs(rt: &(impl Abort + AllocGlobal)) -> Jobs {
+    let mut jobs = user_jobs(rt.alloc(), "@daily \"\n").expect(rt, "jobs");
+    add_daily(rt, &mut jobs);
+    jobs
+}
+
+// The agenda of the first day, as text, with the delays, and in JSON. A timer may start up to a minute late if it has
+// no other accuracy. In JSON a quote in a command has an escape.
+const PLAIN: &str = "agenda 2\t1970-01-01T00:00:00Z\t1970-01-02T00:00:00Z\t2\n\
+    1970-01-01T00:00:00Z\tcron:1\t\"\n\
+    1970-01-01T00:00:00Z\tb.timer\tb.service\n";
+
+const DELAYED: &str = "agenda 3\t1970-01-01T00:00:00Z\t1970-01-02T00:00:00Z\t2\n\
+    1970-01-01T00:00:00Z\t1970-01-01T00:00:00Z\tcron:1\t\"\n\
+    1970-01-01T00:00:00Z\t1970-01-01T00:01:00Z\tb.timer\tb.service\n";
+
+const JSON: &str = "{\"start\":\"1970-01-01T00:00:00Z\",\"job\":\"cron:1\",\"run\":\"\\\"\"}\n\
+    {\"start\":\"1970-01-01T00:00:00Z\",\"job\":\"b.timer\",\"run\":\"b.service\"}\n";
+
 #[test]
-fn an_agenda_is_written(rt: HostRuntime) -> Result<(), Fail> {
-    let jobs = daily_jobs(rt.alloc()).expect(&rt, "jobs");
-    let agenda = plan_serial(rt.alloc(), &jobs, Span::new(0, 86_400)?, 10)?;
-    let line_ends = LineEnds::new(rt.alloc(), &jobs, false)?;
-    let json_ends = LineEnds::new(rt.alloc(), &jobs, true)?;
+fn an_agenda_is_written(rt: HostRuntime) {
+    let jobs = daily_jobs(&rt);
+    let span = Span::new(0, 86_400).expect(&rt, "a span");
+    let agenda = plan_serial(rt.alloc(), &jobs, span, 10).expect(&rt, "an agenda");
+    let line_ends = LineEnds::new(rt.alloc(), &jobs, false).expect(&rt, "memory");
+    let json_ends = LineEnds::new(rt.alloc(), &jobs, true).expect(&rt, "memory");
     let ended = ends(rt.alloc());
     assert!(rt; agenda.since() == 0 && agenda.upto() == 86_400 && agenda.len() == 2);
     assert!(rt; agenda.entry(1) == Some((0, 1)) && agenda.entry(2).is_none());
-    let text = "agenda 2\t1970-01-01T00:00:00Z\t1970-01-02T00:00:00Z\t2\n\
-        1970-01-01T00:00:00Z\tcron:1\t\"\n\
-        1970-01-01T00:00:00Z\tb.timer\tb.service\n";
-    assert_written(&rt, &agenda, &line_ends, false, false, text);
-    let delayed = "agenda 3\t1970-01-01T00:00:00Z\t1970-01-02T00:00:00Z\t2\n\
-        1970-01-01T00:00:00Z\t1970-01-01T00:00:00Z\tcron:1\t\"\n\
-        1970-01-01T00:00:00Z\t1970-01-01T00:01:00Z\tb.timer\tb.service\n";
-    assert_written(&rt, &agenda, &line_ends, false, true, delayed);
-    let json = "{\"start\":\"1970-01-01T00:00:00Z\",\"job\":\"cron:1\",\"run\":\"\\\"\"}\n\
-        {\"start\":\"1970-01-01T00:00:00Z\",\"job\":\"b.timer\",\"run\":\"b.service\"}\n";
-    assert_written(&rt, &agenda, &json_ends, true, false, json);
-    assert_ended(&rt, ended);
-    Ok(())
-}
-
-#[test]
-fn an_error_line_is_written(rt: HostRuntime) {
-    let mut err = no_lines();
-    let ended = ends(rt.alloc());
-    assert!(rt; fault_line(&Failure::Run(RunFault::NoMemory), &[], &mut err) == 3);
-    assert_lines(&rt, &err, "agenda: NoMemory\n");
+    assert_written(&rt, &agenda, &line_ends, false, false, PLAIN);
+    assert_written(&rt, &agenda, &line_ends, false, true, DELAYED);
+    assert_written(&rt, &agenda, &json_ends, true, false, JSON);
     assert_ended(&rt, ended);
 }

@@ -124,7 +124,8 @@ outside jobs span number start second job own is low high =
             (le-leb span.since (start + job.delay) (omega (arith, later, high))))) in
             let here : 0 + number ≡ number = omega arith in
             seconds_reached jobs timings span second span.upto start number (timing_of job)
-            (slice_get-map timing_of jobs number ∙ ap (option_map timing_of) own) (ap (λ k. delay_of (slice_get jobs k)) here ∙ ap delay_of own) opens low high span.upto 0
+            (slice_get-map timing_of jobs number ∙ ap (option_map timing_of) own)
+            (ap (λ k. delay_of (slice_get jobs k)) here ∙ ap delay_of own) opens low high span.upto 0
             (omega arith) (omega (arith, inside, low)) span.since
       ]
     ]

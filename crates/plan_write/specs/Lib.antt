@@ -4,6 +4,7 @@ pub mod LocalTimes
 pub mod TimeFields
 pub mod Json
 pub mod Escapes
+pub mod Shown
 pub mod Texts
 pub mod Stamp
 pub mod Upcoming

@@ -1,7 +1,7 @@
 -- The text of an agenda, by its format.
 use Rattle.std.specs.Prelude.{ℕ, Bool, true, false, if◌then◌else◌, List, [], ◌++◌, codes, decimal, length, map, Option, Some, None, option_map, slice_get, refl}
 use Rattle.std.specs.Coded.{Coded, code_by, coded×, coded_list, coded_ℕ}
-use Rattle.std.specs.List.{flat_map}
+use Rattle.std.specs.List.{enumerate_from, flat_map}
 use Rattle.plan_rules.specs.Job.{JobParts}
 use Rattle.plan_rules.specs.declared.NamedZone.{NamedZone}
 use Rattle.plan_collect.specs.Agenda.{Planned}
@@ -9,6 +9,7 @@ use Rattle.plan_collect.specs.Windows.{latest_start}
 use Rattle.plan_write.specs.Json.{json_string}
 use Rattle.plan_write.specs.TimeFields.{field_text, time_column}
 use Rattle.plan_write.specs.declared.formats.Format.{Format}
+use Rattle.plan_write.specs.declared.line_ends.JobFile.{JobFile}
 use Rattle.plan_write.specs.declared.time_fields.TimeField.TheVariants.{Start, Latest}
 
 -- ---- the ends of lines
@@ -27,10 +28,26 @@ abbrev pub user_member : (user : Option (List ℕ)) → List ℕ
 user_member None = []
 user_member (Some user) = codes ",\"user\":" ++ json_string user
 
--- the end of each object of a job: its name, its user, if it has one, and its command (agenda)
+-- a job's line in its file: a number in decimal, or null if the job comes from no single line (agenda)
+abbrev pub line_value : (line : Option (List ℕ)) → List ℕ
+line_value None = codes "null"
+line_value (Some line) = line
+
+-- the members of the file that a job comes from, if it is given: its path, and the job's line (agenda)
+abbrev pub file_members : Option JobFile → List ℕ
+file_members None = []
+file_members (Some file) = codes ",\"path\":" ++ (json_string file.path ++ (codes ",\"line\":" ++ line_value file.line))
+
+-- the end of each object of a job: its name, its file, if that is given, its user, if it has one, and its command (agenda)
+abbrev pub end_members_of : Option JobFile → JobParts → List ℕ
+end_members_of file job =
+    codes ",\"job\":"
+    ++ (json_string job.name
+    ++ (file_members file ++ (user_member job.user ++ (codes ",\"run\":" ++ (json_string job.command ++ codes "}\n")))))
+
+-- the same without a file
 abbrev pub end_members : JobParts → List ℕ
-end_members job =
-    codes ",\"job\":" ++ (json_string job.name ++ (user_member job.user ++ (codes ",\"run\":" ++ (json_string job.command ++ codes "}\n"))))
+end_members job = end_members_of None job
 
 -- the end of each line of a job
 abbrev pub end_in : (json : Bool) → JobParts → List ℕ
@@ -51,6 +68,14 @@ end_code =
 -- what the lines of this job need
 abbrev pub line_end : (json : Bool) → JobParts → EndParts
 line_end json job = record { text = end_in json job; delay = job.delay }
+
+-- what the objects of this job need
+abbrev pub object_end : Option JobFile → JobParts → EndParts
+object_end file job = record { text = end_members_of file job; delay = job.delay }
+
+-- what the objects of jobs need, each with the file at the place of its job, if there is one
+abbrev pub object_ends : List JobFile → List JobParts → List EndParts
+object_ends files jobs = map (λ job. object_end (slice_get files job.0) job.1) (enumerate_from 0 jobs)
 
 -- ---- lines
 

@@ -2,17 +2,26 @@
 
 ghost use Rattle.std.specs.Prelude.{◌≡◌, [], ◌++◌, IfOk, IsOk, OnOk, map, option_copied, slice_get};
 ghost use Rattle.plan_write.specs.Json.{json_string};
-ghost use Rattle.plan_write.specs.Texts.{end_in, end_members, end_text, line_end, user_member};
+ghost use Rattle.plan_write.specs.Texts.{end_in, end_members_of, end_text, file_members, line_end, line_value, object_end, object_ends, user_member};
 
 use crate::json_strings::push_string;
-use plan_rules::{Job, Jobs};
+use plan_rules::{Job, Jobs, Text};
 use std::alloc::{AllocError, Global};
 use std::marker::Model;
 
+/// The file that a job comes from.
+#[derive(Debug, Drop)]
+pub struct JobFile {
+    /// The path of the file.
+    pub path: Text,
+    /// The number of the job's line in it, in decimal; `None` if the job comes from no single line, as that of a timer.
+    pub line: Option<Text>,
+}
+
 /// For each job of a plan, by its number, the end of the lines that an answer has for it: what comes after the
 /// times. In text this is the job's name, a tab, what it runs, and a newline. What a job runs is its user, if it has
-/// one, a space, and its command. In JSON it is the members of the job's name, of its user, if it has one, and of its
-/// command. The job's delay is kept too.
+/// one, a space, and its command. In JSON it is the members of the job's name, of its file, if that is given, of its
+/// user, if it has one, and of its command. The job's delay is kept too.
 #[derive(Drop)]
 pub struct LineEnds {
     ends: Vec<LineEnd>,
@@ -43,6 +52,27 @@ impl LineEnds {
         for number in 0..jobs.len() {
             if let Some(job) = jobs.get(number) {
                 ends.push(LineEnd::new(alloc, job, json)?)?;
+            }
+        }
+        Ok(LineEnds { ends })
+    }
+
+    /// Makes the ends of the objects of jobs in JSON, each with the members of the file that the job comes from: that
+    /// at the job's place. A job without such a file has no such members.
+    ///
+    /// # Errors
+    ///
+    /// `AllocError` if an allocation fails.
+    pub fn with_files(alloc: Global, jobs: &Jobs, files: &[JobFile]) -> Result<LineEnds, AllocError>
+        ensures ends { IfOk result (λ ends. ends ≡ object_ends files.now jobs.now) }
+
+        // Without jobs it requests no memory.
+        ensures spared { jobs.now ≡ [] → IsOk result }
+    {
+        let mut ends = Vec::with_capacity(alloc, jobs.len())?;
+        for number in 0..jobs.len() {
+            if let Some(job) = jobs.get(number) {
+                ends.push(LineEnd::with_file(alloc, job, files.get(number))?)?;
             }
         }
         Ok(LineEnds { ends })
@@ -86,6 +116,17 @@ impl LineEnd {
         })
     }
 
+    // Makes the end of the objects of a job, with its file, if that is given.
+    fn with_file(alloc: Global, job: &Job, file: Option<&JobFile>) -> Result<LineEnd, AllocError>
+        ensures { IfOk result (λ end. end ≡ object_end (option_copied file.entry) job.now) }
+    {
+        let text = members_of(alloc, job, file)?;
+        Ok(LineEnd {
+            text,
+            delay: job.delay(),
+        })
+    }
+
     /// Returns the text.
     #[inline(always)]
     pub(crate) fn text(&self) -> &[u8]
@@ -108,7 +149,7 @@ fn text_of(alloc: Global, job: &Job, json: bool) -> Result<Vec<u8>, AllocError>
     ensures { IfOk result (λ text. text.items ≡ end_in json job.now) }
 {
     if json {
-        members_of(alloc, job)
+        members_of(alloc, job, None)
     } else {
         columns_of(alloc, job)
     }
@@ -127,23 +168,48 @@ fn columns_of(alloc: Global, job: &Job) -> Result<Vec<u8>, AllocError>
     Ok(text.into_bytes())
 }
 
-// Returns the end of the objects of a job.
-fn members_of(alloc: Global, job: &Job) -> Result<Vec<u8>, AllocError>
-    ensures { IfOk result (λ text. text.items ≡ end_members job.now) }
+// Returns the end of the objects of a job, with its file, if that is given.
+fn members_of(alloc: Global, job: &Job, file: Option<&JobFile>) -> Result<Vec<u8>, AllocError>
+    ensures { IfOk result (λ text. text.items ≡ end_members_of (option_copied file.entry) job.now) }
 {
     let mut text = Vec::new(alloc);
-    push_members(&mut text, job)?;
+    push_members(&mut text, job, file)?;
     Ok(text)
 }
 
 // Appends the end of the objects of a job to a text.
-fn push_members(text: &mut Vec<u8>, job: &Job) -> Result<(), AllocError>
-    ensures { OnOk result (text.new.items ≡ text.old.items ++ end_members job.now) }
+fn push_members(text: &mut Vec<u8>, job: &Job, file: Option<&JobFile>) -> Result<(), AllocError>
+    ensures { OnOk result (text.new.items ≡ text.old.items ++ end_members_of (option_copied file.entry) job.now) }
 {
     push_member(text, b",\"job\":", job.name())?;
+    push_file(text, file)?;
     push_user(text, job)?;
     push_member(text, b",\"run\":", job.command())?;
     text.extend_from_slice(b"}\n")
+}
+
+// Appends the members of the file that a job comes from, if it is given.
+fn push_file(text: &mut Vec<u8>, file: Option<&JobFile>) -> Result<(), AllocError>
+    ensures { OnOk result (text.new.items ≡ text.old.items ++ file_members (option_copied file.entry)) }
+{
+    match file {
+        None => Ok(()),
+        Some(file) => {
+            push_member(text, b",\"path\":", file.path.as_str())?;
+            text.extend_from_slice(b",\"line\":")?;
+            text.extend_from_slice(line_value(&file.line))
+        }
+    }
+}
+
+// Returns a job's line in its file as JSON has it.
+fn line_value(line: &Option<Text>) -> &[u8]
+    ensures { result.now ≡ line_value line.now }
+{
+    match line {
+        Some(line) => line.as_str().as_bytes(),
+        None => b"null",
+    }
 }
 
 // Appends the member of a job's user, if it has one.

@@ -5,7 +5,7 @@ pub(super) const AGENDA: &str = "Shows when cron jobs and systemd timers will ru
 pub(super) const AFTER_AGENDA: &str = "\
 Times are given and printed in UTC, for the years 1970 to 2999. Rules are read in UTC, or
 in the time zone that you give with --zone; --local prints times in that zone, too.
-agenda-machine(1) finds the crontabs, the timers and the time zone of a machine. agenda(1)
+'agenda machine' finds the crontabs, the timers and the time zone of a machine. agenda(1)
 describes the formats, the limits and every error.
 
 Examples:
@@ -205,6 +205,10 @@ start";
 
 pub(super) const MACHINE_LEAST: &str = "\
 The minimum length of a gap, such as 90min or 2h";
+
+pub(super) const EXCEPT: &str = "\
+Ignore the job with this name, as it is printed;
+may be given more than once";
 
 pub(super) const NOMINAL: &str = "Don't count the delays of timers";
 

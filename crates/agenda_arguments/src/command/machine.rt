@@ -7,8 +7,8 @@ ghost use Rattle.agenda_arguments.specs.Command.{machine_upcoming, with_machine_
 
 use super::subcommands::Subcommand;
 use super::{
-    CommandOption, JSON, PLANNERS, ROOM, help, new_subcommand, preset_option, with_alias,
-    with_argument, with_arguments, with_subcommands,
+    CommandOption, JSON, PLANNERS, ROOM, help, new_subcommand, with_alias, with_argument,
+    with_arguments, with_subcommands,
 };
 use clap::Command;
 use std::alloc::{AllocError, Global};
@@ -31,6 +31,9 @@ const AFTER: CommandOption<'static> = CommandOption::Preset(
     help::MACHINE_AFTER,
 );
 
+// The jobs that are left out of the answer.
+const EXCEPT: CommandOption<'static> = CommandOption::Repeated("except", "JOB", help::EXCEPT);
+
 // Whether an error in a file stops the answer.
 const STRICT: CommandOption<'static> = CommandOption::Flag("strict", help::STRICT);
 
@@ -51,7 +54,15 @@ const LIMIT: CommandOption<'static> = CommandOption::Number("limit", "1000000", 
 pub(crate) fn machine_command<'a>(alloc: Global) -> Result<Command<'a>, AllocError>
     ensures { IfOk result (λ command. app_of command ≡ machine) }
 {
-    with_subcommands(alloc, machine_alone(alloc)?, &Subcommand::of_machine())
+    let questions = [
+        Subcommand::MachineUpcoming,
+        Subcommand::MachinePlan,
+        Subcommand::MachineQuiet,
+        Subcommand::MachineCheck,
+        Subcommand::MachineSources,
+        Subcommand::MachineNext,
+    ];
+    with_subcommands(alloc, machine_alone(alloc)?, &questions)
 }
 
 // Returns the command line without its questions.
@@ -130,6 +141,7 @@ pub(super) fn machine_upcoming_command<'a>(alloc: Global) -> Result<Command<'a>,
             AFTER,
             ZONE,
             UTC,
+            EXCEPT,
             CommandOption::Flag("delays", help::DELAYS),
             STRICT,
             TABLE,
@@ -157,6 +169,7 @@ pub(super) fn machine_plan_command<'a>(alloc: Global) -> Result<Command<'a>, All
         &[
             ZONE,
             UTC,
+            EXCEPT,
             CommandOption::Flag("delays", help::DELAYS),
             STRICT,
             TABLE,
@@ -193,6 +206,7 @@ pub(super) fn machine_quiet_command<'a>(alloc: Global) -> Result<Command<'a>, Al
             CommandOption::Preset("least", "LENGTH", "30min", help::MACHINE_LEAST),
             ZONE,
             UTC,
+            EXCEPT,
             CommandOption::Flag("nominal", help::NOMINAL),
             STRICT,
             TABLE,
@@ -225,6 +239,8 @@ pub(super) fn machine_next_command<'a>(alloc: Global) -> Result<Command<'a>, All
             CommandOption::Number("count", "5", help::COUNT),
             ZONE,
             UTC,
+            TABLE,
+            TEXT,
             JSON,
         ],
     )
@@ -246,9 +262,7 @@ fn with_machine_span<'a>(alloc: Global, command: Command<'a>) -> Result<Command<
             CommandOption::Preset("since", "TIME", "now", help::MACHINE_SINCE),
         ],
     )?;
-    let until = with_alias(
-        preset_option(alloc, "until", "TIME", "+24h", help::MACHINE_UNTIL),
-        "upto",
-    )?;
+    let until = CommandOption::Preset("until", "TIME", "+24h", help::MACHINE_UNTIL).to_clap(alloc);
+    let until = with_alias(until, "upto")?;
     with_argument(command, until)
 }

@@ -36,7 +36,7 @@ pub(crate) const BAD_TIMER_NAME: &str = "\
 The file's name isn't one of a timer. It must end in '.timer', and have 7 to 255
 characters: letters, digits and ':', '-', '_', '.' and '\\'. Give a copy under
 another name. If the file is a template or an instance, which has an '@' in its
-name, also replace the specifiers in the copy by their values. agenda-machine(1)
+name, also replace the specifiers in the copy by their values. 'agenda machine'
 does both for you.
 
 Before:

@@ -1,12 +1,8 @@
-use Rattle.std.proofs.Common.{Ok, refl}
+use Rattle.std.proofs.Common.{refl}
 use Rattle.agenda_faults.specs.declared.faults.Failure.TheVariants.{Run}
 use Rattle.agenda_faults.specs.declared.faults.RunFault.TheVariants as run
-use Rattle.agenda_machine.specs.Places.{sources_of}
-use Rattle.agenda_sources.specs.Findings.{kept_jobs}
-use Rattle.agenda_commands.specs.Form.{AnswersForm}
 use Rattle.agenda_inputs.specs.Steps.{goes}
 use Rattle.agenda_answers.proofs.MachineLemmas.{no_accuracy, rest_failed, rest_planned, rest_stopped}
-use Rattle.agenda_answers.proofs.OutcomeLemmas.{settled_answer, settled_failure}
 use Rattle.agenda_inputs.proofs.StepLemmas.{failed}
 use Rattle.agenda_answers.proofs.machine.jobs_answer.Goals as goal
 
@@ -48,20 +44,19 @@ returns-then-is_stopped g c =
     (goes _ (rw (c.in_ok-clock.ensures.same, c.in_ok-sources.ensures, c.as_slice.ensures.value) at c.in_ok-zones.ensures)
     (goes _ (rw (c.unnamed_zone-unnamed.ensures, c.origin-origin.ensures) at c.in_ok-form.ensures)
     (goes _ (rw (c.in_ok-sources.ensures, c.as_slice.ensures.value) at c.in_ok-skipped.ensures.errors)
-    (goes _ (rest_stopped _ _ _ _ _ _ (rw (c.is_stopped.ensures, c.as_slice-2.ensures.value) at c.if-is_stopped.true))
+    (goes _ (rest_stopped _ _ _ _ (rw (c.is_stopped.ensures, c.as_slice-2.ensures.value) at c.if-is_stopped.true))
     (rw c.in_ok-skipped.ensures.paths refl))))))
 
-pub returns-in_err-answer : goal.returns-in_err-answer
-returns-in_err-answer g c =
+pub returns-in_err-outcome : goal.returns-in_err-outcome
+returns-in_err-outcome g c =
     goes _ (rw c.root_of.ensures at c.in_ok-clock.ensures.read) (goes _ c.in_ok-goal.ensures
     (goes _ (rw (c.in_ok-clock.ensures.same, c.in_ok-sources.ensures, c.as_slice.ensures.value) at c.in_ok-zones.ensures)
     (goes _ (rw (c.unnamed_zone-unnamed.ensures, c.origin-origin.ensures) at c.in_ok-form.ensures)
     (goes _ (rw (c.in_ok-sources.ensures, c.as_slice.ensures.value) at c.in_ok-skipped.ensures.errors)
-    (failed _ _ (rest_failed _ _ _ _ _ _ _ (rw (c.is_stopped.ensures, c.as_slice-2.ensures.value) at c.if-is_stopped.false)
-    (settled_failure (AnswersForm c.in_ok-form.form) c.in_ok-goal.goal
-    (Ok (kept_jobs c.in_ok-zones.zones (sources_of c.args.machine.sources.items))) c.prepare_form-made.result _
-    c.prepare_form-made.ensures.bad_least c.in_err-answer.ensures))
-    c.from_residual-in_err-answer.ensures.1)))))
+    (failed _ _ (rest_failed _ _ _ _ _ (rw (c.is_stopped.ensures, c.as_slice-2.ensures.value) at c.if-is_stopped.false)
+    (rw (c.in_ok-skipped.ensures.paths, c.in_ok-skipped.ensures.jobs, c.as_slice-except.ensures, c.in_ok-sources.ensures, c.as_slice.ensures.value)
+    at c.in_err-outcome.ensures))
+    c.from_residual-in_err-outcome.ensures.1)))))
 
 pub returns : goal.returns
 returns g c =
@@ -69,10 +64,7 @@ returns g c =
     (goes _ (rw (c.in_ok-clock.ensures.same, c.in_ok-sources.ensures, c.as_slice.ensures.value) at c.in_ok-zones.ensures)
     (goes _ (rw (c.unnamed_zone-unnamed.ensures, c.origin-origin.ensures) at c.in_ok-form.ensures)
     (goes _ (rw (c.in_ok-sources.ensures, c.as_slice.ensures.value) at c.in_ok-skipped.ensures.errors)
-    (goes _ (rest_planned _ _ _ _ _ _ _ (rw (c.is_stopped.ensures, c.as_slice-2.ensures.value) at c.if-is_stopped.false)
-    (settled_answer (AnswersForm c.in_ok-form.form) c.in_ok-goal.goal
-    (Ok (kept_jobs c.in_ok-zones.zones (sources_of c.args.machine.sources.items))) c.prepare_form-made.result
-    (Ok c.in_ok-answer.answer)
-    (rw (c.in_ok-skipped.ensures.jobs, c.in_ok-sources.ensures, c.as_slice.ensures.value) at c.prepare_form-made.ensures.answer)
-    c.prepare_form-made.ensures.bad_least c.in_ok-answer.ensures))
-    (rw (c.outcome_of.ensures, c.in_words-answer.ensures, c.in_ok-skipped.ensures.paths) refl))))))
+    (goes _ (rest_planned _ _ _ _ _ (rw (c.is_stopped.ensures, c.as_slice-2.ensures.value) at c.if-is_stopped.false)
+    (rw (c.in_ok-skipped.ensures.paths, c.in_ok-skipped.ensures.jobs, c.as_slice-except.ensures, c.in_ok-sources.ensures, c.as_slice.ensures.value)
+    at c.in_ok-outcome.ensures))
+    refl)))))

@@ -21,9 +21,17 @@ returns-in_err-span-in-Plan c =
     goes c.in_ok-now.now c.in_ok-now.ensures.value (rw c.in-Plan.is
     (failed _ _ c.in_err-span-in-Plan.ensures c.from_residual-in_err-span-in-Plan.ensures.1))
 
-pub returns-in_ok-span-in-Plan : goal.returns-in_ok-span-in-Plan
-returns-in_ok-span-in-Plan c = goes c.in_ok-now.now c.in_ok-now.ensures.value (rw c.in-Plan.is
-    (goes c.in_ok-span-in-Plan.span c.in_ok-span-in-Plan.ensures refl))
+pub returns-in_err-sizes-in-Plan : goal.returns-in_err-sizes-in-Plan
+returns-in_err-sizes-in-Plan c =
+    goes c.in_ok-now.now c.in_ok-now.ensures.value (rw c.in-Plan.is
+    (goes c.in_ok-span-in-Plan.span c.in_ok-span-in-Plan.ensures
+    (failed _ _ c.in_err-sizes-in-Plan.ensures c.from_residual-in_err-sizes-in-Plan.ensures.1)))
+
+pub returns-in_ok-sizes-in-Plan : goal.returns-in_ok-sizes-in-Plan
+returns-in_ok-sizes-in-Plan c =
+    goes c.in_ok-now.now c.in_ok-now.ensures.value (rw c.in-Plan.is
+    (goes c.in_ok-span-in-Plan.span c.in_ok-span-in-Plan.ensures
+    (goes c.in_ok-sizes-in-Plan.sizes c.in_ok-sizes-in-Plan.ensures refl)))
 
 pub returns-in_err-span-in-Quiet : goal.returns-in_err-span-in-Quiet
 returns-in_err-span-in-Quiet c =
@@ -35,7 +43,14 @@ returns-in_err-least-in-Quiet c =
     goes c.in_ok-now.now c.in_ok-now.ensures.value (rw c.in-Quiet.is (goes c.in_ok-span-in-Quiet.span c.in_ok-span-in-Quiet.ensures
     (failed _ _ c.in_err-least-in-Quiet.ensures c.from_residual-in_err-least-in-Quiet.ensures.1)))
 
-pub returns-in_ok-least-in-Quiet : goal.returns-in_ok-least-in-Quiet
-returns-in_ok-least-in-Quiet c =
+pub returns-in_err-sizes-in-Quiet : goal.returns-in_err-sizes-in-Quiet
+returns-in_err-sizes-in-Quiet c =
     goes c.in_ok-now.now c.in_ok-now.ensures.value (rw c.in-Quiet.is (goes c.in_ok-span-in-Quiet.span c.in_ok-span-in-Quiet.ensures
-    (goes c.in_ok-least-in-Quiet.least c.in_ok-least-in-Quiet.ensures refl)))
+    (goes c.in_ok-least-in-Quiet.least c.in_ok-least-in-Quiet.ensures
+    (failed _ _ c.in_err-sizes-in-Quiet.ensures c.from_residual-in_err-sizes-in-Quiet.ensures.1))))
+
+pub returns-in_ok-sizes-in-Quiet : goal.returns-in_ok-sizes-in-Quiet
+returns-in_ok-sizes-in-Quiet c =
+    goes c.in_ok-now.now c.in_ok-now.ensures.value (rw c.in-Quiet.is (goes c.in_ok-span-in-Quiet.span c.in_ok-span-in-Quiet.ensures
+    (goes c.in_ok-least-in-Quiet.least c.in_ok-least-in-Quiet.ensures
+    (goes c.in_ok-sizes-in-Quiet.sizes c.in_ok-sizes-in-Quiet.ensures refl))))

@@ -10,19 +10,24 @@ pub returns-in_err-after : goal.returns-in_err-after
 returns-in_err-after g c =
     goes _ c.in_ok-clock.ensures.read (failed _ _ c.in_err-after.ensures c.from_residual-in_err-after.ensures.1)
 
+pub returns-in_err-number_in : goal.returns-in_err-number_in
+returns-in_err-number_in g c =
+    goes _ c.in_ok-clock.ensures.read (goes _ c.in_ok-after.ensures
+    (failed _ _ (rw c.from.ensures at c.in_err-number_in.ensures) c.from_residual-in_err-number_in.ensures.1))
+
 pub returns-in_err-zones : goal.returns-in_err-zones
 returns-in_err-zones g c =
-    goes _ c.in_ok-clock.ensures.read (goes _ c.in_ok-after.ensures
-    (failed _ _ (rw c.in_ok-clock.ensures.same at c.in_err-zones.ensures.read) c.from_residual-in_err-zones.ensures.1))
+    goes _ c.in_ok-clock.ensures.read (goes _ c.in_ok-after.ensures (goes _ (rw c.from.ensures at c.in_ok-number_in.ensures)
+    (failed _ _ (rw c.in_ok-clock.ensures.same at c.in_err-zones.ensures.read) c.from_residual-in_err-zones.ensures.1)))
 
-pub returns-in_err-format : goal.returns-in_err-format
-returns-in_err-format g c =
-    goes _ c.in_ok-clock.ensures.read (goes _ c.in_ok-after.ensures
+pub returns-in_err-form : goal.returns-in_err-form
+returns-in_err-form g c =
+    goes _ c.in_ok-clock.ensures.read (goes _ c.in_ok-after.ensures (goes _ (rw c.from.ensures at c.in_ok-number_in.ensures)
     (goes _ (rw c.in_ok-clock.ensures.same at c.in_ok-zones.ensures.read)
-    (failed _ _ c.in_err-format.ensures c.from_residual-in_err-format.ensures.1)))
+    (failed _ _ c.in_err-form.ensures c.from_residual-in_err-form.ensures.1))))
 
 pub returns : goal.returns
 returns g c =
-    goes _ c.in_ok-clock.ensures.read (goes _ c.in_ok-after.ensures
+    goes _ c.in_ok-clock.ensures.read (goes _ c.in_ok-after.ensures (goes _ (rw c.from.ensures at c.in_ok-number_in.ensures)
     (goes _ (rw c.in_ok-clock.ensures.same at c.in_ok-zones.ensures.read)
-    (goes _ (rw c.unnamed_zone-unnamed.ensures at c.in_ok-format.ensures) refl)))
+    (goes _ (rw (c.unnamed_zone-unnamed.ensures, c.origin_at-origin.ensures) at c.in_ok-form.ensures) refl))))

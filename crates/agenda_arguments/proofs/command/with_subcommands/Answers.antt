@@ -1,5 +1,5 @@
 -- Each turn adds the next subcommand.
-use Rattle.std.proofs.Common.{◌≡◌, ◌<◌, ◌+◌, ◌∙◌, ℕ, List, arith, drop, length, refl, slice_index_or}
+use Rattle.std.proofs.Common.{◌≡◌, ◌<◌, ◌+◌, ◌∙◌, ℕ, List, ap, arith, drop, length, refl, slice_index_or}
 use Rattle.std.proofs.lemmas.List.{drop_more}
 use Rattle.clap.specs.Words.{App, app_of, with_subcommand}
 use Rattle.agenda_arguments.specs.declared.command.subcommands.Subcommand.{Subcommand}
@@ -14,6 +14,8 @@ one_more app next items index other within is = rw (is, drop_more items index ot
 
 pub loop-subcommand-preserved : goal.loop-subcommand-preserved
 loop-subcommand-preserved c =
-    one_more (app_of c.loop-subcommand.command) (app_of c.in_ok-command.command) c.args.subcommands.now
-    c.loop-subcommand.subcommand-index _ (omega arith) c.in_ok-command.ensures
+    let before = app_of c.loop-subcommand.command in
+    let next = c.in_ok-command.ensures.shape c.in_ok-added.ensures.local
+    ∙ ap (λ (added : App). with_subcommand before added.top) c.in_ok-added.ensures.app in
+    one_more before (app_of c.in_ok-command.command) c.args.subcommands.now c.loop-subcommand.subcommand-index _ (omega arith) next
     ∙ c.loop-subcommand.invariant

@@ -1,5 +1,5 @@
 -- The text is cut where std finds the end of the line, and the hint is put between the parts.
-use Rattle.std.proofs.Common.{◌∙◌, arith, rules, sym}
+use Rattle.std.proofs.Common.{◌∙◌, arith, rules}
 use Rattle.agenda_arguments.specs.Hint.{word_end}
 use Rattle.agenda_arguments.proofs.HintLemmas.{cut_first, cut_nowhere}
 use Rattle.agenda_arguments.proofs.hint.hint_between.Goals as goal

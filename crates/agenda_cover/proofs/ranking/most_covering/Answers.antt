@@ -1,4 +1,4 @@
-use Rattle.std.proofs.Common.{◌≡◌, ◌∙◌, ◌+◌, ℕ, List, ap, drop, refl, sym, take}
+use Rattle.std.proofs.Common.{◌≡◌, ◌∙◌, ◌+◌, ℕ, List, ap, drop, sym, take}
 use Rattle.std.proofs.lemmas.List.{drop_all}
 use Rattle.agenda_cover.specs.Ranking.{most_covering, ranked_after, with_job}
 use Rattle.agenda_cover.proofs.RankingLemmas.{few_kept, left, ranked_more}

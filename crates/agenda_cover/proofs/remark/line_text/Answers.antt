@@ -1,4 +1,4 @@
-use Rattle.std.proofs.Common.{◌≡◌, ◌∙◌, ◌++◌, ℕ, List, ap, append_assoc, codes, refl, string_bytes}
+use Rattle.std.proofs.Common.{◌≡◌, ◌∙◌, ◌++◌, ℕ, List, ap, append_assoc, codes}
 use Rattle.agenda_cover.specs.Lengths.{length_text}
 use Rattle.agenda_cover.specs.Remark.{jobs_text}
 use Rattle.agenda_cover.proofs.remark.line_text.Goals as goal

@@ -1,7 +1,7 @@
 use Rattle.std.proofs.Common.{◌++◌, codes, refl}
 use Rattle.plan_write.proofs.TakesLemmas.{takes_three}
 use Rattle.plan_write.specs.Json.{json_string}
-use Rattle.agenda_machine.specs.Shown.{below}
+use Rattle.agenda_machine.specs.Paths.{below}
 use Rattle.agenda_machine.proofs.LineLemmas.{takes_five}
 use Rattle.agenda_machine.proofs.listing.put_part_object.Goals as goal
 

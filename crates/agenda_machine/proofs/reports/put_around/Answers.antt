@@ -1,6 +1,6 @@
 use Rattle.std.proofs.Common.{◌++◌, sym}
 use Rattle.plan_write.proofs.TakesLemmas.{takes_three}
-use Rattle.agenda_machine.specs.Shown.{shown}
+use Rattle.plan_write.specs.Shown.{shown}
 use Rattle.agenda_machine.proofs.ShownLemmas.{shown_three}
 use Rattle.agenda_machine.proofs.reports.put_around.Goals as goal
 

@@ -1,7 +1,8 @@
 use Rattle.plan_timers.specs.Reports.{why_text}
 use Rattle.std.proofs.Common.{codes}
 use Rattle.agenda_machine.specs.Reports.{skipped_line}
-use Rattle.agenda_machine.specs.Shown.{below, shown}
+use Rattle.plan_write.specs.Shown.{shown}
+use Rattle.agenda_machine.specs.Paths.{below}
 use Rattle.agenda_machine.proofs.LineLemmas.{takes_five}
 use Rattle.agenda_machine.proofs.reports.put_skipped.Goals as goal
 

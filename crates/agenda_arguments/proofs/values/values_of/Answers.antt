@@ -1,0 +1,8 @@
+-- clap's values of an option are those in its row.
+use Rattle.std.proofs.Common.{◌∙◌}
+use Rattle.clap.proofs.WalkLemmas.{raw_values-rows}
+use Rattle.clap.specs.Words.{found_of}
+use Rattle.agenda_arguments.proofs.values.values_of.Goals as goal
+
+pub returns : goal.returns
+returns c = c.get_strs.ensures ∙ raw_values-rows (found_of c.args.given.now) c.args.option.now
