@@ -36,7 +36,7 @@ STUB
 fleet_note() {
   cat >"$2/$1" <<STUB
 #!/usr/bin/env bash
-[[ " \$* " != *" --machine "* ]] || echo $1 >>"$machine_folder/fleet.by"
+[[ " \$* " != *" --machines "* ]] || echo $1 >>"$machine_folder/fleet.by"
 exec $(command -v "$1") "\$@"
 STUB
   chmod 755 "$2/$1"

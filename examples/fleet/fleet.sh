@@ -16,7 +16,6 @@
 set -uf -o pipefail
 export LC_ALL=C
 
-self=$(readlink -f -- "$0") || exit 3
 limit=10000
 # The temporary directory, the process group that plans or merges, and the signals that end both with the script.
 work=
@@ -76,13 +75,11 @@ write_said() {
   [[ $1 = 0 || $said = yes ]] || printf '%s: status %s\n' "$name" "$1"
 }
 
-# Plans machine number $5, whose files are in the directory $6. Its lines go to $1/$5/lines, and the messages about it
-# to $1/$5/said. If it has an answer, there is a file $1/$5/done. If there was no error, there is also a file
-# $1/$5/whole. The span is $2 to $3, and the limit is $4.
+# Plans the machine whose files are in the directory $2. Its lines go to $1/lines, and the messages about it to $1/said. If it has
+# an answer, there is a file $1/done. If there was no error, there is also a file $1/whole.
 plan_machine() {
-  local own=$1/$5 folder=$6 name status=1
-  since=$2 upto=$3 limit=$4
-  mkdir -- "$own" && exec 2>"$own/errors" || return
+  local own=$1 folder=$2 name status=1
+  exec 2>"$own/errors" || return
   if ! find_name "$folder"; then
     echo "no name of a machine" >&2
   elif [[ -d $folder && ! (-r $folder && -x $folder) ]]; then
@@ -95,6 +92,18 @@ plan_machine() {
   # with status 1 or 3 an answer is without what was skipped; any other status is a plan that was cut off
   [[ $status != [013] || ! -e $own/headed ]] || : >"$own/done"
   [[ $status != 0 ]] || : >"$own/whole"
+}
+
+# Plans the machines that are given from $5 on, each by its number and its directory. The directory of a machine's answer is
+# $1/NUMBER. The span is $2 to $3, and the limit is $4.
+plan_some() {
+  local own=$1
+  since=$2 upto=$3 limit=$4
+  shift 4
+  while [[ $# -ge 2 ]]; do
+    plan_machine "$own/$1" "$2"
+    shift 2
+  done
 }
 
 # Reports a usage error, and ends the script.
@@ -160,14 +169,22 @@ settle_span() {
   IFS=$'\t' read -r _ since upto _ <<<"$header"
 }
 
-# Plans the machines in the directories $@, as many at a time as there are processors.
+# Plans the machines in the directories $@, as many at a time as there are processors. A process plans up to 8 of them, one
+# after the other, if that leaves some processes for each processor.
 plan_machines() {
-  local by=(xargs) number=0 folder
+  local by=(xargs) number=0 folder self processors some
   [[ $(parallel --version 2>/dev/null) != 'GNU parallel'* ]] || by=(parallel --plain -q -u)
+  self=$(readlink -f -- "$0") && processors=$(nproc) || exit 3
+  some=$(($# / processors / 4))
+  some=$((some < 1 ? 1 : some > 8 ? 8 : some))
   for folder in "$@"; do
     printf '%d\0%s\0' "$((++number))" "$folder"
   done >"$work/machines" || exit 3
-  run "${by[@]}" -0 -n 2 -P "$(nproc)" bash "$self" --machine "$work" "$since" "$upto" "$limit" <"$work/machines"
+  for ((; number > 0; number--)); do
+    printf '%s\0' "$work/$number"
+  done | xargs -0 mkdir -- || exit 3
+  run "${by[@]}" -0 -n "$((2 * some))" -P "$processors" \
+    bash "$self" --machines "$work" "$since" "$upto" "$limit" <"$work/machines"
 }
 
 # Lists the files with the lines of the machines $@, and those with the messages about them. Sets `failed`.
@@ -181,7 +198,7 @@ list_answers() {
     elif [[ ! -s $own/said ]]; then
       # its process was ended
       find_name "$folder"
-      mkdir -p -- "$own" && printf '%s: no answer\n' "$name" >"$own/said"
+      printf '%s: no answer\n' "$name" >"$own/said"
     fi
     [[ ! -s $own/said ]] || printf '%s\0' "$own/said" >&4
   done 3>"$work/answers" 4>"$work/said"
@@ -193,8 +210,8 @@ merge_answers() {
   [[ ! -s $work/answers ]] || run sort -m -s -t $'\t' -k 1,1 --batch-size=16 --files0-from="$work/answers"
 }
 
-if [[ ${1-} = --machine ]]; then
-  plan_machine "${@:2}"
+if [[ ${1-} = --machines ]]; then
+  plan_some "${@:2}"
   exit 0
 fi
 if [[ ${1-} = --limit && $# -ge 2 ]]; then
