@@ -7,6 +7,7 @@ use Rattle.std.proofs.lemmas.Str.{IsUtf8-from_is_utf8, is_utf8-from_IsUtf8}
 use Rattle.std.specs.Str.{IsUtf8, is_utf8}
 use Rattle.plan_rules.specs.declared.line_fault.LineCause.TheVariants.{NotUtf8, TooLarge}
 use Rattle.plan_rules.specs.declared.line_fault.LineFault.{LineFault}
+use Rattle.plan_texts.proofs.Utf8Lemmas.{no_utf8}
 use Rattle.plan_texts.specs.Lines.{is_too_large}
 use Rattle.plan_rules.specs.FileText.{text_reading}
 use Rattle.plan_rules.specs.LineFaults.{of_whole, on_line}
@@ -20,13 +21,9 @@ text_of_large bytes large = rw large refl
 pub text_of_utf8 : (bytes : List ℕ) → is_too_large bytes ≡ false → IsUtf8 bytes → text_reading bytes ≡ Ok bytes
 text_of_utf8 bytes small utf8 = rw (small, is_utf8-from_IsUtf8 bytes utf8) refl
 
-no_utf8 : (b : Bool) (bytes : List ℕ) → is_utf8 bytes ≡ b → (IsUtf8 bytes → ⊥) → b ≡ false
-no_utf8 true bytes is other = absurd (other (IsUtf8-from_is_utf8 bytes is))
-no_utf8 false bytes is other = refl
-
 pub text_of_other :
     (bytes : List ℕ) → is_too_large bytes ≡ false → (IsUtf8 bytes → ⊥) → text_reading bytes ≡ Err (of_whole NotUtf8)
-text_of_other bytes small other = rw (small, no_utf8 (is_utf8 bytes) bytes refl other) refl
+text_of_other bytes small other = rw (small, no_utf8 bytes other) refl
 
 -- ---- from the text to the bytes
 

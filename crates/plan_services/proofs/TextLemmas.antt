@@ -1,23 +1,11 @@
--- A text has whole lines if it is UTF-8. The front of a file's text suffices.
+-- The front of a file's text suffices.
 use Rattle.std.proofs.Common.{◌≡◌, ℕ, ◌≤◌, Bool, true, false, inl, inr, List, [], length, take, Option, Some, None, refl, ap, sym, ◌∙◌, arith}
 use Rattle.std.proofs.lemmas.Bool.{cases_lt}
 use Rattle.std.proofs.lemmas.Bool.Decides.{nat_tests}
 use Rattle.std.proofs.lemmas.List.{length-take-le, take_all}
-use Rattle.std.proofs.lemmas.Str.{IsUtf8-from_is_utf8, is_utf8-from_IsUtf8}
 use Rattle.std.specs.Option.{option_map}
-use Rattle.std.specs.Str.{IsUtf8, is_utf8}
 use Rattle.plan_texts.specs.Lines.{is_too_large}
 use Rattle.plan_services.specs.Texts.{lines_of_found, lines_of_text}
-
-pub text_of_utf8 : (text : List ℕ) → IsUtf8 text → is_utf8 text ≡ true
-text_of_utf8 text utf8 = is_utf8-from_IsUtf8 text utf8
-
-no_utf8 : (b : Bool) (text : List ℕ) → is_utf8 text ≡ b → (IsUtf8 text → ⊥) → b ≡ false
-no_utf8 true text is other = absurd (other (IsUtf8-from_is_utf8 text is))
-no_utf8 false text is other = refl
-
-pub no_text_of_other : (text : List ℕ) → (IsUtf8 text → ⊥) → is_utf8 text ≡ false
-no_text_of_other text other = no_utf8 (is_utf8 text) text refl other
 
 -- a text that is too large has no lines
 none_of_large : (text : List ℕ) → is_too_large text ≡ true → lines_of_text text ≡ []

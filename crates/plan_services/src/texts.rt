@@ -35,7 +35,7 @@ fn lines_of_found(alloc: Global, found: Option<Vec<u8>>) -> Result<Vec<WholeLine
 }
 
 // Returns the whole lines of a text; none if it is too large or isn't UTF-8.
-#[tactic(auto, using(crate::proofs::TextLemmas::text_of_utf8, crate::proofs::TextLemmas::no_text_of_other))]
+#[tactic(auto, using(plan_texts::proofs::Utf8Lemmas::yes_utf8, plan_texts::proofs::Utf8Lemmas::no_utf8))]
 pub(crate) fn lines_of_text(alloc: Global, text: &[u8]) -> Result<Vec<WholeLine>, AllocError>
     ensures { IfOk result (λ lines. map whole_text lines.items ≡ lines_of_text text.now) }
 {

@@ -1,4 +1,4 @@
--- A text is a name if it is UTF-8. The front of a file's text suffices.
+-- The front of a file's text suffices.
 use Rattle.std.proofs.Common.{◌≡◌, ℕ, ◌≤◌, Bool, true, false, inl, inr, List, [], length, take, Option, Some, None, refl, ap, sym, ◌∙◌, arith}
 use Rattle.std.proofs.lemmas.Bool.{cases_lt}
 use Rattle.std.proofs.lemmas.Bool.Decides.{nat_tests}
@@ -6,18 +6,6 @@ use Rattle.std.proofs.lemmas.List.{length-take-le, take_all}
 use Rattle.std.specs.Option.{option_map}
 use Rattle.plan_texts.specs.Lines.{is_too_large}
 use Rattle.plan_units.specs.Settings.{names_of_found, names_of_text}
-use Rattle.std.proofs.lemmas.Str.{IsUtf8-from_is_utf8, is_utf8-from_IsUtf8}
-use Rattle.std.specs.Str.{IsUtf8, is_utf8}
-
-pub name_of_utf8 : (text : List ℕ) → IsUtf8 text → is_utf8 text ≡ true
-name_of_utf8 text utf8 = is_utf8-from_IsUtf8 text utf8
-
-no_utf8 : (b : Bool) (text : List ℕ) → is_utf8 text ≡ b → (IsUtf8 text → ⊥) → b ≡ false
-no_utf8 true text is other = absurd (other (IsUtf8-from_is_utf8 text is))
-no_utf8 false text is other = refl
-
-pub name_of_other : (text : List ℕ) → (IsUtf8 text → ⊥) → is_utf8 text ≡ false
-name_of_other text other = no_utf8 (is_utf8 text) text refl other
 
 -- a text that is too large names nothing
 none_of_large : (unit text : List ℕ) → is_too_large text ≡ true → names_of_text unit text ≡ []

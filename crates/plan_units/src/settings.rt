@@ -45,7 +45,7 @@ fn names_of_found(
 }
 
 // Returns the names of the units that the text of the file of a unit wants.
-#[tactic(auto, using(crate::proofs::TextLemmas::name_of_utf8, crate::proofs::TextLemmas::name_of_other))]
+#[tactic(auto, using(plan_texts::proofs::Utf8Lemmas::yes_utf8, plan_texts::proofs::Utf8Lemmas::no_utf8))]
 fn names_of_text(alloc: Global, unit: &str, text: &[u8]) -> Result<Vec<Name>, AllocError>
     ensures { IfOk result (λ names. names.items ≡ names_of_text unit.now text.now) }
 {
@@ -155,7 +155,7 @@ pub fn name_of_word(alloc: Global, unit: &str, word: &[u8]) -> Result<Option<Nam
 }
 
 // Returns the name that a text means in the file of a unit, if it is valid.
-#[tactic(auto, using(crate::proofs::TextLemmas::name_of_utf8, crate::proofs::TextLemmas::name_of_other))]
+#[tactic(auto, using(plan_texts::proofs::Utf8Lemmas::yes_utf8, plan_texts::proofs::Utf8Lemmas::no_utf8))]
 fn name_of_text(alloc: Global, unit: &str, text: &[u8]) -> Result<Option<Name>, AllocError>
     ensures { IfOk result (λ name. name
         ≡ (if is_utf8 text.now then wanted_unit unit.now text.now else None)) }
