@@ -59,6 +59,14 @@ _agenda() {
             fi
             return
             ;;
+        *check:--deny)
+            mapfile -t COMPREPLY < <(compgen -W "all $(agenda explain 2>/dev/null | cut -f 1)" -- "$cur")
+            return
+            ;;
+        *check:--allow)
+            mapfile -t COMPREPLY < <(compgen -W "$(agenda explain 2>/dev/null | cut -f 1)" -- "$cur")
+            return
+            ;;
         *:--planners)
             mapfile -t COMPREPLY < <(compgen -W '1 2 3 4 5 6 7 8' -- "$cur")
             return
@@ -99,7 +107,7 @@ _agenda() {
             [[ ${COMPREPLY-} == *= ]] && compopt -o nospace
             ;;
         check:-*)
-            mapfile -t COMPREPLY < <(compgen -W "--json $sources" -- "$cur")
+            mapfile -t COMPREPLY < <(compgen -W "--deny= --allow= --json $sources" -- "$cur")
             [[ ${COMPREPLY-} == *= ]] && compopt -o nospace
             ;;
         machine:-* | machine\ upcoming:*)
@@ -122,7 +130,7 @@ _agenda() {
             [[ ${COMPREPLY-} == *= ]] && compopt -o nospace
             ;;
         machine\ check:*)
-            mapfile -t COMPREPLY < <(compgen -W "$machine" -- "$cur")
+            mapfile -t COMPREPLY < <(compgen -W "--deny= --allow= $machine" -- "$cur")
             [[ ${COMPREPLY-} == *= ]] && compopt -o nospace
             ;;
         machine\ next:*)

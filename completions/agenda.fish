@@ -34,6 +34,10 @@ complete -c agenda -n $zone -l zone -r -F -d 'The time zone of the rules [UTC]' 
 complete -c agenda -n $zone -l event-zones -d 'Read events that end with a time zone'
 complete -c agenda -n $zone -l json -d 'Print each line as a JSON object'
 
+set -l check '__fish_seen_subcommand_from check'
+complete -c agenda -n $check -l deny -x -d 'Print this warning as an error' -a 'all (agenda explain 2>/dev/null)'
+complete -c agenda -n $check -l allow -x -d 'Don\'t print this warning' -a '(agenda explain 2>/dev/null)'
+
 set -l times '__fish_seen_subcommand_from next plan upcoming quiet'
 complete -c agenda -n $times -l local -d 'Print times in the time zone of the rules'
 

@@ -197,7 +197,7 @@ check_texts <<'ROWS'
 --crontab jobs|@daily\n|:1: error [NoCommand]
 --crontab jobs|* * * * *  \n|:1: error [NoCommand]
 --crontab jobs|MAILTO\n|:1: error [BadSetting]
---crontab jobs|\n# c\n \t\n \t60 * * * * x|:4: error minute [OutOfRange]
+--crontab jobs|\n# c\n \t\n \t60 * * * * x\n|:4: error minute [OutOfRange]
 --system-crontab jobs|@daily root x\n@daily root\n|:2: error [NoCommand]
 --cron-d jobs|@daily root x\n@daily root\n|:2: error [NoCommand]
 --spool jobs|@daily root x\n@daily\n|:2: error [NoCommand]
@@ -217,8 +217,8 @@ ROWS
 
 # All errors of all lines, in order. Between them are lines without errors, settings and comments.
 check_texts <<'ROWS'
---crontab jobs|60 * * * * x\n@daily\nMAILTO\n# c\n* * * * * x\nA=b\n@never x\n* * * * * x|:1: error minute [OutOfRange];:2: error [NoCommand];:3: error [BadSetting];:7: error [UnknownWord]
---spool jobs|@x\n@x\n@x|:1: error [UnknownWord];:2: error [UnknownWord];:3: error [UnknownWord]
+--crontab jobs|60 * * * * x\n@daily\nMAILTO\n# c\n* * * * * x\nA=b\n@never x\n* * * * * x\n|:1: error minute [OutOfRange];:2: error [NoCommand];:3: error [BadSetting];:7: error [UnknownWord]
+--spool jobs|@x\n@x\n@x\n|:1: error [UnknownWord];:2: error [UnknownWord];:3: error [UnknownWord]
 a.timer|[Timer]\nOnCalendar=25:00\nOnCalendar=daily\n[Unit]\nOnCalendar=x\n[Timer]\nOnCalendar=x\n|:2: error hour [OutOfRange];:7: error [UnknownWord]
 ROWS
 
@@ -251,7 +251,7 @@ check_texts <<'ROWS'
 --spool .a|\n60 * * * * x\n0 0 31 2 * x\n|: error [BadTabName];:2: error minute [OutOfRange];:3: warning [NeverStarts]
 --spool a~|60 * * * * x\n\xff|: error [BadTabName];: error [NotUtf8]
 jobs|[Timer]\nOnCalendar=25:00\nOnCalendar=*-2-30\n|: error [BadTimerName];:2: error hour [OutOfRange];:3: warning [NeverStarts]
-jobs|[Timer]\n|: error [BadTimerName];: warning [NoEvents]
+jobs|[Timer]\n|: error [BadTimerName];: warning [TimerRejected]
 jobs|[Unit]\n|: error [BadTimerName];: error [NoTimerSection]
 jobs|\xff|: error [BadTimerName];: error [NotUtf8]
 a@b.timer|[Timer]\nOnCalendar=%i\n|: error [BadTimerName];:2: error [Specifier]
@@ -292,11 +292,11 @@ ROWS
 # the list. Without a section [Timer] nothing is read.
 check_texts <<'ROWS'
 a.timer|[Timer]\nOnCalendar=Mon \\\n# note\n25:00\nOnCalendar=x\n|:2: error hour [OutOfRange];:5: error [UnknownWord]
-a.timer|[Timer]\nUnit=a \\\nOnCalendar=x\nOnCalendar=\\\n\\\n25:00|:4: error hour [OutOfRange]
+a.timer|[Timer]\nUnit=a \\\nOnCalendar=x\nOnCalendar=\\\n\\\n25:00|:2: warning [UnitIgnored];:4: error hour [OutOfRange]
 a.timer|[Timer]\r\nOnCalendar=Mon \\\r\n25:00\r\n|:2: error hour [OutOfRange]
 a.timer|[Timer]\nOnCalendar=daily\nOnCalendar=fortnightly\nOnCalendar=\nOnCalendar=weekly\n|:3: error [UnknownWord]
 a.timer|[Timer]\nOnCalendar=x\nOnActiveSec=\nOnCalendar=x\nOnBootSec=\nOnCalendar=x\nOnStartupSec=\nOnCalendar=daily|:2: error [UnknownWord];:4: error [UnknownWord];:6: error [UnknownWord]
-a.timer|[Timer]\nOnCalendar=x\nOnUnitActiveSec=\nOnCalendar=x\nOnUnitInactiveSec=\n|: warning [NoEvents];:2: error [UnknownWord];:4: error [UnknownWord]
+a.timer|[Timer]\nOnCalendar=x\nOnUnitActiveSec=\nOnCalendar=x\nOnUnitInactiveSec=\n|: warning [TimerRejected];:2: error [UnknownWord];:4: error [UnknownWord]
 a.timer|OnCalendar=x\n[Unit]\nOnCalendar=x\n[Timer]\nOnCalendar=daily\n[Install]\nOnCalendar=x\n|
 a.timer|[Timer]\noncalendar=x\nOnCalendar x\nOnBootSec=x\nUnit=\nOnCalendar=daily\n|: warning [Monotonic];:2: warning [UnknownKey]
 ROWS
@@ -321,8 +321,8 @@ check_lists <<'ROWS'
 65 daily;1 ;1 x;1 *-2-30|:66: error [TooManyLines];:68: error [UnknownWord];:69: warning [NeverStarts]
 66 daily;1 ;64 daily;1 x;1 ;1 25:00|:66: error [TooManyLines];:135: error hour [OutOfRange]
 40 daily;1 ;40 daily|
-65 daily;1 |: warning [NoEvents];:66: error [TooManyLines]
-64 daily;1 |: warning [NoEvents]
+65 daily;1 |: warning [TimerRejected];:66: error [TooManyLines]
+64 daily;1 |: warning [TimerRejected]
 ROWS
 { echo '[Timer]' && check_times 66 'OnCalendar=%i'; } >"$check_folder/a.timer"
 { seq -f 'a.timer:%g: error [Specifier]' 2 65 && echo 'a.timer:66: error [TooManyLines]'; } >"$work/findings.wanted"
@@ -385,7 +385,7 @@ one/f.timer two/f.timer|one/f.timer: error [NotUtf8];two/f.timer: error [SameNam
 two/f.timer one/f.timer|one/f.timer: error [NotUtf8];one/f.timer: error [SameName]
 one/h.timer two/h.timer|one/h.timer: error [TooLarge];two/h.timer: error [SameName]
 two/h.timer one/h.timer|one/h.timer: error [TooLarge];one/h.timer: error [SameName]
-g.timer g.timer|g.timer: warning [NoEvents];g.timer: error [SameName];g.timer: warning [NoEvents]
+g.timer g.timer|g.timer: warning [TimerRejected];g.timer: error [SameName];g.timer: warning [TimerRejected]
 daily daily|daily: error [BadTimerName];daily: error [NoTimerSection];daily: error [BadTimerName];daily: error [NoTimerSection]
 a@b.timer a@b.timer|a@b.timer: error [BadTimerName];a@b.timer: error [BadTimerName]
 ROWS
@@ -414,7 +414,7 @@ check_rows <<'ROWS'
 --crontab thousand bad.timer|bad.timer: error [Full];bad.timer:2: error hour [OutOfRange]
 --crontab thousand n.timer|n.timer: error [NoTimerSection];n.timer: error [Full]
 --crontab thousand one/f.timer|one/f.timer: error [NotUtf8];one/f.timer: error [Full]
---crontab thousand g.timer|g.timer: error [Full];g.timer: warning [NoEvents]
+--crontab thousand g.timer|g.timer: error [Full];g.timer: warning [TimerRejected]
 --crontab thousand a@b.timer --spool one/.a|one/.a: error [BadTabName];a@b.timer: error [BadTimerName]
 --crontab thousand --cron-d one/z one/f.timer bad.timer|one/z:1: error minute [OutOfRange];one/f.timer: error [NotUtf8];one/f.timer: error [Full];bad.timer:2: error hour [OutOfRange]
 --crontab thousand --system-crontab system --cron-d one/x --spool one/cron|system:1: error [Full];one/cron:1: error [SameName]
@@ -446,10 +446,10 @@ check_warnings calendar <<'ROWS'
 *-2-30|NeverStarts
 *-02-30,31 12:00|NeverStarts
 *-4,6,9,11-31|NeverStarts
-*-2~30|NeverStarts
-*-4~31 *:*:*|NeverStarts
-*-2~29|
-*-4~30|
+*-2~30|NeverStarts SystemdRejects
+*-4~31 *:*:*|NeverStarts SystemdRejects
+*-2~29|SystemdRejects
+*-4~30|SystemdRejects
 2100-2-29|NeverStarts
 2000-2-29|
 2100..2103-2-29|NeverStarts
@@ -459,9 +459,9 @@ Tue 2024-1-2|
 Mon..Wed,Fri..Sun 1970-1-1|NeverStarts
 1970-1-1|
 Thu 1970-1-1 00:00:00|
-2999-12-31 23:59:59|
-Tue 2999-12-31|
-Mon 2999-12-31|NeverStarts
+2999-12-31 23:59:59|SystemdRejects
+Tue 2999-12-31|SystemdRejects
+Mon 2999-12-31|NeverStarts SystemdRejects
 Fri *-*-13|
 daily|
 ROWS
@@ -489,19 +489,19 @@ ROWS
 # No events: the section exists, and the list is empty at the end. Only the list counts, and a rejected event
 # is in it too.
 check_texts <<'ROWS'
-a.timer|[Timer]\n|: warning [NoEvents]
-a.timer|[Timer]|: warning [NoEvents]
-a.timer|[Timer]\nOnBootSec=5\nUnit=x.service\n|: warning [NoEvents];: warning [Monotonic]
-a.timer|[Timer]\nOnCalendar=daily\nOnCalendar=\n|: warning [NoEvents]
-a.timer|[Timer]\nOnCalendar=daily\nOnUnitActiveSec=\n|: warning [NoEvents]
+a.timer|[Timer]\n|: warning [TimerRejected]
+a.timer|[Timer]|: warning [TimerRejected]
+a.timer|[Timer]\nOnBootSec=5\nUnit=x.service\n|: warning [Monotonic]
+a.timer|[Timer]\nOnCalendar=daily\nOnCalendar=\n|: warning [TimerRejected]
+a.timer|[Timer]\nOnCalendar=daily\nOnUnitActiveSec=\n|: warning [TimerRejected]
 a.timer|[Timer]\nOnCalendar=daily\nOnUnitActiveSec=5\n|: warning [Monotonic]
 a.timer|[Timer]\nOnCalendar=\nOnCalendar=daily\n|
 a.timer|[Timer]\n[Timer]\nOnCalendar=daily\n|
-a.timer|[Timer]\n[Unit]\nOnCalendar=daily\n|: warning [NoEvents]
+a.timer|[Timer]\n[Unit]\nOnCalendar=daily\n|: warning [TimerRejected]
 a.timer|[Timer]\nOnCalendar=25:00\n|:2: error hour [OutOfRange]
-a.timer|[Timer]\nOnCalendar=25:00\nOnCalendar=\n|: warning [NoEvents];:2: error hour [OutOfRange]
-a.timer|[Timer]\nOnCalendar=*-2-30\nOnCalendar=\n|: warning [NoEvents];:2: warning [NeverStarts]
-a.timer|[Unit]\n[Timer\n|: error [NoTimerSection]
+a.timer|[Timer]\nOnCalendar=25:00\nOnCalendar=\n|: warning [TimerRejected];:2: error hour [OutOfRange]
+a.timer|[Timer]\nOnCalendar=*-2-30\nOnCalendar=\n|: warning [TimerRejected];:2: warning [NeverStarts]
+a.timer|[Unit]\n[Timer\n|: error [NoTimerSection];: warning [TimerRejected]
 ROWS
 
 # cron ends a command at a % that doesn't directly follow a backslash. A carriage return at the end of a command
@@ -511,7 +511,7 @@ check_texts <<'ROWS'
 --crontab jobs|@daily echo 50%\n|:1: warning [Percent]
 --crontab jobs|@daily %\n|:1: warning [Percent]
 --crontab jobs|@daily echo \\%\n|
---crontab jobs|@daily echo \\\\%\n|
+--crontab jobs|@daily echo \\\\%\n|:1: warning [Percent];:1: warning [CronDiffers]
 --crontab jobs|@daily echo \\% %\n|:1: warning [Percent]
 --crontab jobs|@daily echo %\\%\n|:1: warning [Percent]
 --crontab jobs|@daily echo \\%%\n|:1: warning [Percent]
@@ -521,7 +521,7 @@ check_texts <<'ROWS'
 --system-crontab jobs|@daily a%b x\n@daily root %\n|:2: warning [Percent]
 --crontab jobs|@daily x\r\n@daily x\n|:1: warning [CarriageReturn]
 --crontab jobs|@daily \r\n|:1: warning [CarriageReturn]
---crontab jobs|@daily x\r\r|:1: warning [CarriageReturn]
+--crontab jobs|@daily x\r\r\n|:1: warning [CarriageReturn]
 --crontab jobs|@daily x\ry\n@daily x\r \n|
 --crontab jobs|A=b\r\n# c\r\n@daily\r\n|:3: error [UnknownWord]
 --cron-d jobs|@daily root\r x\n@daily root x\r\n|:2: warning [CarriageReturn]
@@ -532,11 +532,11 @@ ROWS
 # The setting of a zone: its name is CRON_TZ without blanks around it, and without one pair of equal quotes.
 check_texts <<'ROWS'
 --crontab jobs|CRON_TZ=UTC\n|:1: warning [ZoneSetting]
---system-crontab jobs|@daily u x\n \tCRON_TZ \t= \n|:2: warning [ZoneSetting]
+--system-crontab jobs|@daily u x\n \tCRON_TZ \t= \n|:2: warning [ZoneSetting];:2: warning [CronIgnores]
 --cron-d jobs|"CRON_TZ"=UTC\n'CRON_TZ' =UTC\n|:1: warning [ZoneSetting];:2: warning [ZoneSetting]
 --spool jobs|CRON_TZ==\nCRON_TZ=A=B\n|:1: warning [ZoneSetting];:2: warning [ZoneSetting]
---crontab jobs|TZ=UTC\ncron_tz=UTC\nCRON_TZX=UTC\nXCRON_TZ=UTC\nCRON TZ=UTC\nA=CRON_TZ=UTC\n|
---crontab jobs|"CRON_TZ'=UTC\n"CRON_TZ=UTC\nCRON_TZ"=UTC\n""CRON_TZ""=UTC\n'"CRON_TZ"'=UTC\n" CRON_TZ"=UTC\n|
+--crontab jobs|TZ=UTC\ncron_tz=UTC\nCRON_TZX=UTC\nXCRON_TZ=UTC\nCRON TZ=UTC\nA=CRON_TZ=UTC\n|:5: warning [CronIgnores]
+--crontab jobs|"CRON_TZ'=UTC\n"CRON_TZ=UTC\nCRON_TZ"=UTC\n""CRON_TZ""=UTC\n'"CRON_TZ"'=UTC\n" CRON_TZ"=UTC\n|:1: warning [CronIgnores];:2: warning [CronIgnores];:4: warning [CronIgnores]
 --crontab jobs|#CRON_TZ=UTC\n@daily CRON_TZ=UTC\nCRON_TZ\n|:3: error [BadSetting]
 ROWS
 
@@ -544,9 +544,9 @@ ROWS
 # the first line. Other sections have other keys.
 check_texts <<'ROWS'
 a.timer|[Timer]\nOnCalendar=daily\nOnClendar=daily\nPersistant=\n|:3: warning [UnknownKey];:4: warning [UnknownKey]
-a.timer|[Timer]\nOnCalendar=daily\nPersistent=yes\nAccuracySec=1\nFixedRandomDelay=no\nOnClockChange=no\nOnTimezoneChange=no\nUnit=x\nWakeSystem=no\nRemainAfterElapse=no\n|
+a.timer|[Timer]\nOnCalendar=daily\nPersistent=yes\nAccuracySec=1\nFixedRandomDelay=no\nOnClockChange=no\nOnTimezoneChange=no\nUnit=x\nWakeSystem=no\nRemainAfterElapse=no\n|:8: warning [UnitIgnored]
 a.timer|[Timer]\nOnCalendar=daily\nOnActiveSec=\nOnBootSec=\nOnStartupSec=\nOnUnitActiveSec=\nOnUnitInactiveSec=\nRandomizedDelaySec=\nOnCalendar=daily\n|
-a.timer|[Timer]\nOnCalendar=daily\nPERSISTENT=yes\npersistent=yes\nUnit =x\n=x\n|:3: warning [UnknownKey];:4: warning [UnknownKey];:6: warning [UnknownKey]
+a.timer|[Timer]\nOnCalendar=daily\nPERSISTENT=yes\npersistent=yes\nUnit =x\n=x\n|:3: warning [UnknownKey];:4: warning [UnknownKey];:5: warning [UnitIgnored];:6: warning [UnknownKey]
 a.timer|A=b\n[Unit]\nDescription=x\n[Timer]\nOnCalendar=daily\n[Install]\nWantedBy=timers.target\n[Timer]\nWantedBy=x\n|:9: warning [UnknownKey]
 a.timer|[Timer]\nOnCalendar=daily\nDescription=a \\\n#A=b\nB=c\nD\\\n=e\n|:3: warning [UnknownKey];:6: warning [UnknownKey]
 a.timer|[Timer]\nOnCalendar=daily\n#A=b\n;A=b\nA\n[A=b]\nC=d\n|
@@ -574,12 +574,12 @@ a.timer|[Timer]\nOnCalendar=daily\nRandomizedDelaySec=0.0000009s\n|
 a.timer|[Timer]\nOnCalendar=daily\nRandomizedDelaySec=0 0h\nAccuracySec=1h\n|
 a.timer|[Timer]\nOnCalendar=daily\nRandomizedDelaySec=1us\n|: warning [Delayed]
 a.timer|[Timer]\nOnCalendar=daily\nRandomizedDelaySec=0h 1us\n|: warning [Delayed]
-a.timer|[Timer]\nOnCalendar=daily\nRandomizedDelaySec=infinity\n|: warning [Delayed]
+a.timer|[Timer]\nOnCalendar=daily\nRandomizedDelaySec=infinity\n|: warning [Delayed];: warning [Merged]
 a.timer|[Timer]\nOnCalendar=daily\nRandomizedDelaySec=1h\nRandomizedDelaySec=\n|: warning [Delayed]
 a.timer|[Timer]\nOnCalendar=daily\nRandomizedDelaySec=\nRandomizedDelaySec=0\n|
 a.timer|[Timer]\nOnCalendar=daily\nRandomizedDelaySec=1h\nRandomizedDelaySec=0\nOnCalendar=\nOnCalendar=weekly\n|
 a.timer|[Timer]\nRandomizedDelaySec=0\nOnCalendar=daily\n[Timer]\nRandomizedDelaySec=1\n|: warning [Delayed]
-a.timer|[Timer]\nOnBootSec=1\nRandomizedDelaySec=1\nA=b\n|: warning [NoEvents];: warning [Monotonic];: warning [Delayed];:4: warning [UnknownKey]
+a.timer|[Timer]\nOnBootSec=1\nRandomizedDelaySec=1\nA=b\n|: warning [Monotonic];: warning [Delayed];:4: warning [UnknownKey]
 a.timer|[Timer]\nOnCalendar=*:0/25\nRandomizedDelaySec=1\nOnActiveSec=1\nx=1\n|: warning [Monotonic];: warning [Delayed];:2: warning [SkippedStarts];:5: warning [UnknownKey]
 jobs|[Timer]\nOnCalendar=25:00\nOnBootSec=1\n|: error [BadTimerName];: warning [Monotonic];:2: error hour [OutOfRange]
 a.timer|[Timer]\nOnBootSec=1\n\xff\n|: error [NotUtf8]
@@ -604,62 +604,10 @@ jobs|[Timer]\nOnCalendar=daily\nAccuracySec=x\n|: error [BadTimerName];:3: warni
 a.timer|[Timer]\nOnCalendar=daily\nAccuracySec=x\n\xff\n|: error [NotUtf8]
 ROWS
 
-# A step without an end is carried into the next larger component if its next value leaves values of the
-# component behind. Minutes 0/25 are carried as 75, which is minute 15 of the next hour. But 0/15 are carried as
-# 60, which is the first minute. The next hour must be one of the event; for hours the next day and weekday.
-check_warnings calendar <<'ROWS'
-*:0/25|SkippedStarts
-*:0/15|
-*:0/7|SkippedStarts
-*:0..50/25|
-*:0,25,50|
-*:20/25|
-*:5,0/25|SkippedStarts
-*:0/25,15|SkippedStarts
-*:0/25,5/20|SkippedStarts
-*:0/60|
-*:5/58|
-*:0/59|SkippedStarts
-12:0/25|
-12,13:0/25|SkippedStarts
-12,14:0/25|
-0,23:0/25|SkippedStarts
-*:*:0/40|SkippedStarts
-*:*:0/20|
-*:7:0/40|
-*:0,59:0/40|SkippedStarts
-*:30,40:0/25|
-0/5:00|SkippedStarts
-0/6:00|
-Mon 0/5:00|
-Mon,Tue 0/5:00|SkippedStarts
-Sun,Mon 0/5:00|SkippedStarts
-Mon,Wed 0/5:00|
-*-*-1 0/5:00|
-*-*-1,31 0/5:00|SkippedStarts
-*-*~1 0/5:00|SkippedStarts
-*-*-1/2|SkippedStarts
-*-*-1/3|SkippedStarts
-*-*~1/2|
-*-*~9/4|
-*-*-6/16|SkippedStarts
-*-1/6-6/16|
-*-5-1/2|
-*-5,6-1/2|SkippedStarts
-*-1,12-1/2|SkippedStarts
-*-1/2-1|
-*-2/5-1|SkippedStarts
-2024-2/5-1|
-2024,2025-2/5-1|SkippedStarts
-2024,2026-2/5-1|
-1970,2999-2/5-1|
-2024/5-1-1|
-daily|
-Mon *-2/5-1|SkippedStarts
-ROWS
+# Events before an empty value have their warnings. rows/check-skips.sh has when SkippedStarts is reported.
 check_texts <<'ROWS'
 a.timer|[Timer]\nOnCalendar=*:0/25\nOnCalendar=\nOnCalendar=daily\n|:2: warning [SkippedStarts]
-a.timer|[Timer]\nOnCalendar=Mon 2024-1-2 *:0/25\n|:2: warning [NeverStarts];:2: warning [SkippedStarts]
+a.timer|[Timer]\nOnCalendar=Mon,Tue 2024-1-3,4 *:0/25\n|:2: warning [NeverStarts];:2: warning [SkippedStarts]
 a.timer|[Timer]\nOnCalendar=*:0/25:60\n|:2: error second [OutOfRange]
 ROWS
 
@@ -681,7 +629,7 @@ one/never.timer two/never.timer|one/never.timer:2: warning [NeverStarts];two/nev
 ROWS
 check_texts <<'ROWS'
 --crontab jobs|0 0 31 2 *\n0 0 1 * 1\n0 0 31 2 1 x\n|:1: error [NoCommand];:2: error [NoCommand];:3: warning [EitherDay]
---system-crontab jobs|0 0 31 2 * u\n0 0 1 * 1 u\n0 0 31 2 * u x|:1: error [NoCommand];:2: error [NoCommand];:3: warning [NeverStarts]
+--system-crontab jobs|0 0 31 2 * u\n0 0 1 * 1 u\n0 0 31 2 * u x\n|:1: error [NoCommand];:2: error [NoCommand];:3: warning [NeverStarts]
 --crontab jobs|60 0 1 * 1 x\n0 0 1 * 8 x\n|:1: error minute [OutOfRange];:2: error day of week [OutOfRange]
 a.timer|[Timer]\nOnCalendar=Mon \\\n2024-1-2\nOnCalendar=25:00\n|:2: warning [NeverStarts];:4: error hour [OutOfRange]
 ROWS
@@ -692,8 +640,8 @@ check_file cron.d/q '@x root a\n'
 check_file spool/u '60 * * * * x\n'
 check_file spool/v 'MAILTO\n'
 check_rows <<'ROWS'
-g.timer bad.timer --spool spool/v --cron-d cron.d/q --system-crontab cron.d/p --spool spool/u --cron-d cron.d/p --crontab spool/u|spool/u:1: error minute [OutOfRange];cron.d/p:1: error [NoCommand];cron.d/q:1: error [UnknownWord];cron.d/p:1: error [NoCommand];spool/v:1: error [BadSetting];spool/u:1: error minute [OutOfRange];g.timer: warning [NoEvents];bad.timer:2: error hour [OutOfRange]
-bad.timer g.timer n.timer|bad.timer:2: error hour [OutOfRange];g.timer: warning [NoEvents];n.timer: error [NoTimerSection]
+g.timer bad.timer --spool spool/v --cron-d cron.d/q --system-crontab cron.d/p --spool spool/u --cron-d cron.d/p --crontab spool/u|spool/u:1: error minute [OutOfRange];cron.d/p:1: error [NoCommand];cron.d/q:1: error [UnknownWord];cron.d/p:1: error [NoCommand];spool/v:1: error [BadSetting];spool/u:1: error minute [OutOfRange];g.timer: warning [TimerRejected];bad.timer:2: error hour [OutOfRange]
+bad.timer g.timer n.timer|bad.timer:2: error hour [OutOfRange];g.timer: warning [TimerRejected];n.timer: error [NoTimerSection]
 ROWS
 
 # The path is written as it was given.
@@ -707,13 +655,13 @@ check_rows <<ROWS
 --crontab a:7|a:7:1: error minute [OutOfRange]
 --spool a:7|a:7: error [BadTabName];a:7:1: error minute [OutOfRange]
 --cron-d -|-:1: error [NoCommand]
-./bad.timer one/../g.timer|./bad.timer:2: error hour [OutOfRange];one/../g.timer: warning [NoEvents]
+./bad.timer one/../g.timer|./bad.timer:2: error hour [OutOfRange];one/../g.timer: warning [TimerRejected]
 -- bad.timer -|bad.timer:2: error hour [OutOfRange];-: error [BadTimerName];-: error [NoTimerSection]
 ROWS
 check_file 'one/a b: c' '@daily\n'
 check_run --spool 'one/a b: c' --crontab 'one/a b: c'
 check_findings "check a path with blanks" 'one/a b: c:1: error [NoCommand];one/a b: c: error [BadTabName];one/a b: c:1: error [NoCommand]'
-run_in "$check_folder" bash -c "printf '@daily a\n@daily' | agenda check --crontab /dev/stdin"
+run_in "$check_folder" bash -c "printf '@daily a\n@daily\n' | agenda check --crontab /dev/stdin"
 check_findings "check a pipe as crontab" '/dev/stdin:2: error [NoCommand]'
 
 # A file that can't be read comes before every error in a text, and nothing else is written then.

@@ -184,11 +184,16 @@ BadTimerName
 BadZone
 BadZoneName
 CarriageReturn
+CronDiffers
+CronIgnores
 Delayed
 Device
 EitherDay
 Fraction
 Full
+LineEnd
+MayStop
+Merged
 Monotonic
 NeverStarts
 NoCommand
@@ -197,18 +202,23 @@ NoMemory
 NoSuchDate
 NoSuchZone
 NoTimerSection
+NoUser
 NotSettled
 NotUtf8
 OutOfRange
 OutOfYears
 Percent
+RangeFromEnd
 SameName
 SkippedStarts
 Specifier
+SystemdRejects
+TimerRejected
 TooLarge
 TooMany
 TooManyLines
 TooManySteps
+UnitIgnored
 UnknownKey
 UnknownWord
 WrongParts
@@ -239,8 +249,8 @@ explain_examples <<'ROWS'
 Backwards crontab|0 22-4 * * * backup|0 22-23,0-4 * * * backup
 BadDelay setting|AccuracySec=5mins|AccuracySec=5min
 BadForm moment|agenda upcoming --after '2024-01-01 6:00' --crontab jobs|agenda upcoming --after 2024-01-01T06:00:00Z --crontab jobs
-BadLine step|take 0|take
 BadLength machine|agenda machine quiet --least 1:30|agenda machine quiet --least '1h 30min'
+BadLine step|take 0|take
 BadName crontab|0 6 * * monday report|0 6 * * mon report
 BadNumber crontab|0 6 ? * 1-5 report|0 6 * * 1-5 report
 BadSetting crontab|backup --all|@daily backup --all
@@ -249,19 +259,28 @@ BadTabName cron-d|/etc/cron.d/backup.sh|/etc/cron.d/backup
 BadTime machine|agenda machine plan --since 8h|agenda machine plan --since +8h
 BadTimerName timer-name|backup@home.timer|backup-home.timer
 BadZoneName zone|--zone 'America/New York'|--zone America/New_York
+CronDiffers crontab|@daily grep -c '\\.' list|@daily grep -c '[.]' list
+CronIgnores crontab|MAILTO=|MAILTO=""
 Delayed setting|RandomizedDelaySec=1h|RandomizedDelaySec=0
 EitherDay crontab|0 9 13 * 5 report|0 9 13 * * test $(date +\%u) != 5 || report
 Fraction event|OnCalendar=*:*:29.5|OnCalendar=*:*:30
+MayStop event-zone|OnCalendar=*-1/5-3 07:00 Europe/Oslo|OnCalendar=*-1,6,11-3 07:00 Europe/Oslo
+Merged event|OnCalendar=*:*:0/10|OnCalendar=*:*:0/10;AccuracySec=1s
 NeverStarts crontab|0 0 31 4,6,9,11 * close-month|0 0 30 4,6,9,11 * close-month
 NoCommand system|30 4 * * * backup|30 4 * * * root backup
-NoEvents event|OnCalendar=daily;OnCalendar=|OnCalendar=;OnCalendar=daily
+NoEvents event|OnCalendar=daily;OnCalendar=;OnClockChange=yes|OnCalendar=;OnCalendar=daily;OnClockChange=yes
 NoSuchDate span|--upto 2024-01-31T24:00:00Z|--upto 2024-02-01T00:00:00Z
 NoSuchZone zone|--zone europe/berlin|--zone Europe/Berlin
 NoTimerSection timer|OnCalendar=daily|[Timer];OnCalendar=daily
+NoUser system|30 4 * * * /usr/bin/backup --all|30 4 * * * root /usr/bin/backup --all
 OutOfRange crontab|0 24 * * * backup|0 0 * * * backup
 Percent crontab|0 4 * * * backup --name $(date +%F)|0 4 * * * backup --name $(date +\%F)
+RangeFromEnd event|OnCalendar=*-*~1..4/2|OnCalendar=*-*~1..3/2
 SkippedStarts event|OnCalendar=*:0/25|OnCalendar=*:0..50/25
 Specifier event|OnCalendar=*:%i|OnCalendar=*:15
+SystemdRejects event|OnCalendar=*:*/15|OnCalendar=*:0/15
+TimerRejected timer|[Unit;Description=Backup;[Timer];OnCalendar=daily|[Unit];Description=Backup;[Timer];OnCalendar=daily
+UnitIgnored setting|Unit=backup|Unit=backup.service
 UnknownKey setting|OnCalender=daily|OnCalendar=daily
 UnknownWord crontab|@every_hour poll|@hourly poll
 WrongParts crontab|5/15 * * * * poll|5-59/15 * * * * poll

@@ -4,6 +4,9 @@
 # shellcheck source=/dev/null
 . "$top/rows/lib/program.sh"
 
+# This daemon ignores no crontab that agenda can read.
+machine_daemon=usr/sbin/fcron
+
 fleet_folder=$machine_folder/fleet
 fleet_programs=$machine_folder/fleet-programs
 fleet_script=$machine_folder/fleet.sh
@@ -218,7 +221,7 @@ fleet_names() {
   fleet_want </dev/null
   for name in "${names[@]}"; do
     mkdir -p -- "$fleet_folder/names/$name/etc" "$fleet_folder/names/$name/usr/sbin"
-    : >"$fleet_folder/names/$name/usr/sbin/cron"
+    : >"$fleet_folder/names/$name/usr/sbin/fcron"
     echo '0 6 * * * root g' >"$fleet_folder/names/$name/etc/crontab"
     printf '2024-01-01T06:00:00Z\t%s\tsystem:1\troot g\n' "$name" >>"$work/out.wanted"
   done
@@ -235,7 +238,7 @@ fleet_forty() {
     folders+=("m$number")
     [ ! -d "$fleet_folder/m$number" ] || continue
     mkdir -p "$fleet_folder/m$number/etc" "$fleet_folder/m$number/usr/sbin"
-    : >"$fleet_folder/m$number/usr/sbin/cron"
+    : >"$fleet_folder/m$number/usr/sbin/fcron"
     echo '0 1,2 * * * root h' >"$fleet_folder/m$number/etc/crontab"
   done
   echo '0 1,24 * * * root h' | tee "$fleet_folder/m07/etc/crontab" >"$fleet_folder/m33/etc/crontab"

@@ -155,12 +155,12 @@ json_rows 1 check --crontab faulty --system-crontab latin empty.timer never.time
 {"path":"faulty","line":4,"severity":"warning","code":"NeverStarts","text":"never starts"}
 {"path":"faulty","line":5,"severity":"error","code":"NoCommand","text":"no command"}
 {"path":"latin","line":null,"severity":"error","code":"NotUtf8","text":"not UTF-8"}
-{"path":"empty.timer","line":null,"severity":"warning","code":"NoEvents","text":"no OnCalendar= event, so no start is planned"}
+{"path":"empty.timer","line":null,"severity":"warning","code":"TimerRejected","text":"systemd 252 rejects this timer: it has no valid trigger"}
 {"path":"never.timer","line":2,"severity":"warning","code":"NeverStarts","text":"never starts"}
 {"path":"late.timer","line":null,"severity":"warning","code":"Delayed","text":"starts up to '1h' later than planned (RandomizedDelaySec=)"}
 JSON
 json_rows 0 check empty.timer <<'JSON'
-{"path":"empty.timer","line":null,"severity":"warning","code":"NoEvents","text":"no OnCalendar= event, so no start is planned"}
+{"path":"empty.timer","line":null,"severity":"warning","code":"TimerRejected","text":"systemd 252 rejects this timer: it has no valid trigger"}
 JSON
 json_rows 0 check --crontab jobs --system-crontab system night.timer </dev/null
 

@@ -333,9 +333,9 @@ a.timer|[Timer]\nOnCalendar=daily\n#\xff\n||: error: not UTF-8 [NotUtf8]
 --cron-d a.b|@daily u a\n60 * * * * u b\n||: error: not a name that cron reads [BadTabName];:2: error: minute '60': out of range 0-59 [OutOfRange]
 --cron-d a~|\xff||: error: not a name that cron reads [BadTabName];: error: not UTF-8 [NotUtf8]
 --spool .a|@daily a\n||: error: not a name that cron reads [BadTabName]
-b|[Timer]\nOnCalendar=daily\n||: error: not a timer's name: it must end in .timer and name no template [BadTimerName]
+b|[Timer]\nOnCalendar=daily\n||: error: not a timer's name: it must end in .timer and name no template (for a crontab, use --crontab or --cron-d) [BadTimerName]
 a@b.timer|[Timer]\nOnCalendar=%i\n||: error: not a timer's name: it must end in .timer and name no template [BadTimerName];:2: error: specifiers in '%i' are not expanded [Specifier]
-b|[Unit]\n||: error: not a timer's name: it must end in .timer and name no template [BadTimerName];: error: no [Timer] section [NoTimerSection]
+b|[Unit]\n||: error: not a timer's name: it must end in .timer and name no template (for a crontab, use --crontab or --cron-d) [BadTimerName];: error: no [Timer] section [NoTimerSection]
 a.timer|||: error: no [Timer] section [NoTimerSection]
 a.timer|[Unit]\nOnCalendar=daily\n||: error: no [Timer] section [NoTimerSection]
 ROWS
@@ -346,7 +346,7 @@ keep_rows <<'ROWS'
 --spool large --spool other|other:1 b|large: error: larger than 1048576 bytes [TooLarge]
 large.timer d.timer|d.timer d.service|large.timer: error: larger than 1048576 bytes [TooLarge]
 --crontab /dev/zero d.timer|d.timer d.service|/dev/zero: error: larger than 1048576 bytes [TooLarge]
-/dev/zero d.timer|d.timer d.service|/dev/zero: error: not a timer's name: it must end in .timer and name no template [BadTimerName];/dev/zero: error: larger than 1048576 bytes [TooLarge]
+/dev/zero d.timer|d.timer d.service|/dev/zero: error: not a timer's name: it must end in .timer and name no template (for a crontab, use --crontab or --cron-d) [BadTimerName];/dev/zero: error: larger than 1048576 bytes [TooLarge]
 ROWS
 
 # Files that can't be read: they are reported first, in the order in which files are read. With a pair of them, and

@@ -228,7 +228,7 @@ largest_checks() {
   compare "check of 80,658 events" "$work/findings.wanted" /dev/null 1
   { echo '[Timer]' && yes $'OnCalendar=x\nOnCalendar='; } | largest_file events.timer 1048558
   {
-    echo 'events.timer: warning: no OnCalendar= event, so no start is planned [NoEvents]'
+    echo 'events.timer: warning: systemd 252 rejects this timer: it has no valid trigger [TimerRejected]'
     seq -f "events.timer:%.0f: error: 'x' is not a calendar event [UnknownWord]" 2 2 83884
   } >"$work/findings.wanted"
   largest_run events.timer 0 check events.timer
@@ -267,7 +267,7 @@ largest_zones() {
   largest_run zones.timer 0 plan "${largest_day[@]}" --event-zones zones.timer
   is_refused "30,000 events with different zones that are unknown" "zones.timer: line 2: part 8: Zone" 1
   {
-    echo 'zones.timer: warning: no OnCalendar= event, so no start is planned [NoEvents]'
+    echo 'zones.timer: warning: systemd 252 rejects this timer: it has no valid trigger [TimerRejected]'
     awk 'BEGIN { for (n = 1; n <= 30000; n++) printf "zones.timer:%d: error: time zone in \0471:0 N%d\047: unknown [Zone]\n", 2 * n, n }'
   } >"$work/findings.wanted"
   largest_run zones.timer 0 check --event-zones zones.timer

@@ -20,7 +20,8 @@ check_findings() {
     printf -v said '%b' "$said"
     case $code in
       NeverStarts | EitherDay | Percent | CarriageReturn | ZoneSetting | SkippedStarts) severity=warning ;;
-      UnknownKey | BadDelay | NoEvents | Monotonic | Delayed) severity=warning ;;
+      UnknownKey | BadDelay | NoEvents | Monotonic | Delayed | TimerRejected | UnitIgnored | LineEnd | Merged) severity=warning ;;
+      SystemdRejects | RangeFromEnd | MayStop | CronIgnores | CronDiffers | NoUser) severity=warning ;;
       *) severity=error found=1 ;;
     esac
     machine_path "$path"
@@ -101,8 +102,8 @@ check_roots <<'ROWS'
 *a.timer U/a.timer=[Timer]\nOnCalendar=24:00\n|U/a.timer,2,OutOfRange,hour in '24:00': out of range 0-23|
 *a.timer U/a.timer=[Timer]\nOnCalendar=Mo\n|U/a.timer,2,UnknownWord,'Mo' is not a calendar event|
 *a.timer U/a.timer|U/a.timer,,NoTimerSection,no [Timer] section|
-*a.timer U/a.timer=[Timer]\n|U/a.timer,,NoEvents,no OnCalendar= event, so no start is planned|
-*a.timer U/a.timer=[Timer]\nOnBootSec=5\n|U/a.timer,,NoEvents,no OnCalendar= event, so no start is planned;U/a.timer,,Monotonic,also starts by OnBootSec= or the like, which is not planned|
+*a.timer U/a.timer=[Timer]\n|U/a.timer,,TimerRejected,systemd 252 rejects this timer: it has no valid trigger|
+*a.timer U/a.timer=[Timer]\nOnBootSec=5\n|U/a.timer,,Monotonic,also starts by OnBootSec= or the like, which is not planned|
 *a.timer U/a.timer=[Timer]\nOnBootSec=5\nOnCalendar=daily\n|U/a.timer,,Monotonic,also starts by OnBootSec= or the like, which is not planned|
 *a.timer U/a.timer=[Timer]\nOnCalendar=daily\nRandomizedDelaySec=1h\n|U/a.timer,,Delayed,starts up to '1h' later than planned (RandomizedDelaySec=)|
 *a.timer U/a.timer=[Timer]\nOnCalender=daily\nOnCalendar=daily\nAccuracySec=x\n|U/a.timer,2,UnknownKey,unknown setting 'OnCalender' in [Timer];U/a.timer,4,BadDelay,'x' is not a time span|
@@ -136,7 +137,7 @@ check_roots <<'ROWS'
 *a.timer U/a.timer=[Timer]\nOnCalendar=24:00\\ E/a.timer.d/x.conf=[Timer]\nOnCalendar=25:00\\\n E/a.timer.d/y.conf=[Timer]\nOnCalendar=daily|U/a.timer,2,OutOfRange,hour in '24:00': out of range 0-23;E/a.timer.d/x.conf,2,OutOfRange,hour in '25:00': out of range 0-23|
 *a.timer U/a.timer=DAILY E/a.timer.d/x.conf=[Timer]\nOnCalendar=Mon\\\n#\x20x\n\x2024:00\nOnCalendar=25:00\n|E/a.timer.d/x.conf,2,OutOfRange,hour in 'Mon 24:00': out of range 0-23;E/a.timer.d/x.conf,5,OutOfRange,hour in '25:00': out of range 0-23|
 *a.timer U/a.timer=[Timer]\nOnCalendar=24:00\n E/a.timer.d/x.conf=[Timer]\nOnCalendar=\nOnCalendar=daily\n|U/a.timer,2,OutOfRange,hour in '24:00': out of range 0-23|
-*a.timer U/a.timer=DAILY E/a.timer.d/x.conf=[Timer]\nOnCalendar=\n|U/a.timer,,NoEvents,no OnCalendar= event, so no start is planned|
+*a.timer U/a.timer=DAILY E/a.timer.d/x.conf=[Timer]\nOnCalendar=\n|U/a.timer,,TimerRejected,systemd 252 rejects this timer: it has no valid trigger|
 *a.timer U/a.timer=DAILY E/a.timer.d/x.conf=[Timer]\nOnBootSec=5\nRandomizedDelaySec=5min\n|U/a.timer,,Monotonic,also starts by OnBootSec= or the like, which is not planned;U/a.timer,,Delayed,starts up to '5min' later than planned (RandomizedDelaySec=)|
 *a.timer U/a.timer=DAILY E/a.timer.d/x.conf=[Timer]\nFoo=1\nRandomizedDelaySec=y\n|E/a.timer.d/x.conf,2,UnknownKey,unknown setting 'Foo' in [Timer];E/a.timer.d/x.conf,3,BadDelay,'y' is not a time span|
 *a.timer U/a.timer=DAILY E/a.timer.d/x.conf=[Timer]\nOnCalendar=2024-02-30\n|E/a.timer.d/x.conf,2,NeverStarts,never starts|

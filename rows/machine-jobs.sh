@@ -106,7 +106,7 @@ program_answers <<'ROWS'
 *a.timer U/a.timer=[Timer]\nOnBootSec=5\n|upcoming --utc --after 2024-03-31T00:00:00Z|none>a.timer>a.service||monotonic U/a.timer
 *a.timer U/a.timer=[Timer]\nOnBootSec=5\n|plan --utc --since 2024-04-01T00:00:00Z --until 2024-04-02T00:00:00Z|agenda 2>2024-04-01T00:00:00Z>2024-04-02T00:00:00Z>0||monotonic U/a.timer
 *a.timer U/a.timer=[Timer]\nOnBootSec=5\n|quiet --utc --since 2024-04-01T00:00:00Z --until 2024-04-01T01:00:00Z|2024-04-01T00:00:00Z>2024-04-01T01:00:00Z>3600||monotonic U/a.timer
-*a.timer U/a.timer=[Timer]\nOnBootSec=5\n|check|root/usr/lib/systemd/system/a.timer: warning: no OnCalendar= event, so no start is planned [NoEvents];root/usr/lib/systemd/system/a.timer: warning: also starts by OnBootSec= or the like, which is not planned [Monotonic]||
+*a.timer U/a.timer=[Timer]\nOnBootSec=5\n|check|root/usr/lib/systemd/system/a.timer: warning: also starts by OnBootSec= or the like, which is not planned [Monotonic]||
 *a.timer U/a.timer=[Timer]\nOnBootSec=5\n|sources|timer>a.timer>root/usr/lib/systemd/system/a.timer||
 U/a.timer=[Timer]\nOnBootSec=5\n|upcoming|||
 U/a.timer=[Timer]\nOnBootSec=5\n|upcoming --all|none>a.timer>a.service||monotonic U/a.timer

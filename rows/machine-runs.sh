@@ -5,6 +5,9 @@
 # shellcheck source=/dev/null
 . "$top/rows/lib/program.sh"
 
+# This daemon ignores no crontab that agenda can read.
+machine_daemon=usr/sbin/fcron
+
 # Rows of a root, the starts in its plan of a day, with `;` between them and `>` for a tab, the errors and the lines, as in
 # program_answers. In a start the day and `:00Z` are missing.
 runs_plans() {
@@ -228,3 +231,4 @@ printf '2024-01-02T00:00:00Z\tu:1\ta\n' >"$work/out.wanted"
 program_run upcoming --root root --utc --after 2024-01-01
 program_compare "standard input that is closed" "$work/out.wanted" /dev/null 0
 machine_by=()
+machine_daemon=usr/sbin/cron

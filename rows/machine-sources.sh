@@ -85,7 +85,7 @@ F/root F/.b F/c~ F/d#e|F/root|F/c~ bad name,F/d#e bad name
 F/a F/atjobs/.SEQ F/atspool/x F/lastrun/cron.daily F/b~/|F/a|
 C/a F/a|C/a F/a=a.user|
 C/a F/a F/a.user|C/a F/a.user|F/a name taken
-F/a>nowhere F/b>/opt/b opt/b F/c>atspool F/atspool/ F/d!|F/b|F/a not readable,F/d not readable
+F/a>nowhere F/b>/opt/b opt/b F/c>atspool F/atspool/ F/d!|F/b|F/a not readable,F/d not readable,not F/b cron ignores this file: a link; not a regular file
 etc/crontab F/system|etc/crontab|F/system name taken
 F/||
 F/crontabs F/tabs F/a|F/a F/crontabs F/tabs|

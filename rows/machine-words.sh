@@ -39,16 +39,20 @@ Prints errors and likely mistakes in a machine's crontabs and timers
 Usage: agenda machine check [OPTIONS]
 
 Options:
-      --root <DIR>   Read the machine whose root directory is DIR [default: /]
-      --all          Include timers that aren't enabled
-      --zone <ZONE>  The time zone of the rules, such as Europe/Berlin,
-                     or the path of a TZif file; that of the machine
-                     if it isn't given
-      --utc          Read the rules in UTC, like --zone UTC, and print
-                     times in UTC
-      --json         Print each line as a JSON object; agenda(1)
-                     describes the keys
-  -h, --help         Print help
+      --root <DIR>    Read the machine whose root directory is DIR [default: /]
+      --all           Include timers that aren't enabled
+      --zone <ZONE>   The time zone of the rules, such as Europe/Berlin,
+                      or the path of a TZif file; that of the machine
+                      if it isn't given
+      --utc           Read the rules in UTC, like --zone UTC, and print
+                      times in UTC
+      --deny <CODE>   Print this warning as an error, with status 1; all is
+                      every warning; may be given more than once
+      --allow <CODE>  Don't print this warning, even with --deny all; may be
+                      given more than once
+      --json          Print each line as a JSON object; agenda(1)
+                      describes the keys
+  -h, --help          Print help
 
 Prints all errors and warnings about the files that 'agenda machine sources' lists, in the
 form of 'agenda check'. Each names the file and the line that it is about, even if that is
@@ -259,6 +263,7 @@ check|a.timer => error: unexpected argument 'a.timer' found
 check|tomorrow => error: unexpected argument 'tomorrow' found
 check|--root => error: a value is required for '--root <DIR>' but none was supplied
 check|--root=a|--root=b => error: the argument '--root <DIR>' cannot be used multiple times
+check|--deny => error: a value is required for '--deny <CODE>' but none was supplied
 check|--all|--all => error: the argument '--all' cannot be used multiple times
 check|--zone => error: a value is required for '--zone <ZONE>' but none was supplied
 check|--zone=UTC|--zone=UTC => error: the argument '--zone <ZONE>' cannot be used multiple times

@@ -133,7 +133,7 @@ messages_of_lines --crontab <<'ROWS'
 @hour x|error: unknown word '@hour' [UnknownWord]
 @|error: unknown word '@' [UnknownWord]
 @Daily\tx|error: unknown word '@Daily' [UnknownWord]
- @every 5m|error: unknown word '@every' [UnknownWord]
+ @every 5m|error: unknown word '@every' (Jenkins' H and @every are not cron's) [UnknownWord]
 @@daily|error: unknown word '@@daily' [UnknownWord]
 MAILTO|error: expected NAME=VALUE, or five fields and a command [BadSetting]
 MAILTO root|error: expected NAME=VALUE, or five fields and a command [BadSetting]
@@ -185,7 +185,7 @@ daily Europe/Oslo|error: time zone in 'daily Europe/Oslo': only UTC is supported
 Mon,,Tue 12:00|error: weekday in 'Mon,,Tue 12:00': empty value, or a step after * [WrongParts]
 Mon.. 12:00|error: weekday in 'Mon.. 12:00': empty value, or a step after * [WrongParts]
 Foo 12:00|error: weekday in 'Foo 12:00': unknown name [BadName]
-Mon-Fri 12:00|error: weekday in 'Mon-Fri 12:00': unknown name [BadName]
+Mon-Fri 12:00|error: weekday in 'Mon-Fri 12:00': unknown name (write Mon..Fri) [BadName]
 Fri..Mon 12:00|error: weekday in 'Fri..Mon 12:00': range runs backwards [Backwards]
 2024,-1-1|error: year in '2024,-1-1': empty value, or a step after * [WrongParts]
 12345-1-1|error: year in '12345-1-1': not a number of one to four digits [BadNumber]
@@ -248,7 +248,6 @@ messages_of_events <<'ROWS'
 Mon 2024-1-2|warning: never starts [NeverStarts]
 *:0/25|warning: systemd 252 may pass over starts of '*:0/25': give the step an end [SkippedStarts]
   *-*-* \\\n\t*:0/25 |warning: systemd 252 may pass over starts of '*-*-*  *:0/25': give the step an end [SkippedStarts]
-*:0/25\tUTC|warning: systemd 252 may pass over starts of '*:0/25\x09UTC': give the step an end [SkippedStarts]
 ROWS
 
 # The value without blanks at its ends, with those inside it. A merged line is one value: the backslash at the end
@@ -272,7 +271,7 @@ messages_of_lines --crontab <<'ROWS'
 \x01 * * * * x|error: minute '\x01': not a number of one to four digits [BadNumber]
 \x1b[31m5 * * * * x|error: minute '\x1b[31m5': not a number of one to four digits [BadNumber]
 5\x7f * * * * x|error: minute '5\x7f': not a number of one to four digits [BadNumber]
-0\x00 * * * * x|error: minute '0\x00': not a number of one to four digits [BadNumber]
+0\x0e * * * * x|error: minute '0\x0e': not a number of one to four digits [BadNumber]
 0 \x1f\x0b\x0c\x08 * * * x|error: hour '\x1f\x0b\x0c\x08': not a number of one to four digits [BadNumber]
 0 0 * * *\r x|error: day of week '*\x0d': not a number of one to four digits [BadNumber]
 \x5c * * * * x|error: minute '\\': not a number of one to four digits [BadNumber]
@@ -289,8 +288,8 @@ messages_of_events <<'ROWS'
 Mon\t25:00|error: hour in 'Mon\x0925:00': out of range 0-23 [OutOfRange]
 Mon\t \t\\\n\t25:00|error: hour in 'Mon\x09 \x09 25:00': out of range 0-23 [OutOfRange]
 \x5cx41|error: '\\x41' is not a calendar event [WrongParts]
-25:00\r\r|error: hour in '25:00\x0d': out of range 0-23 [OutOfRange]
-25:\x00\x7f|error: hour in '25:\x00\x7f': out of range 0-23 [OutOfRange]
+25:00\x0b|error: hour in '25:00\x0b': out of range 0-23 [OutOfRange]
+25:\x01\x7f|error: hour in '25:\x01\x7f': out of range 0-23 [OutOfRange]
 'daily'|error: ''daily'' is not a calendar event [WrongParts]
 "daily"|error: '"daily"' is not a calendar event [WrongParts]
 täglich 12:00|error: weekday in 'täglich 12:00': unknown name [BadName]
@@ -352,8 +351,8 @@ $(messages_repeat 64 1)%|error: specifiers in '$(messages_repeat 64 1)'... are n
 %$(messages_repeat 61 1)é|error: specifiers in '%$(messages_repeat 61 1)é' are not expanded [Specifier]
 %$(messages_repeat 62 1)é|error: specifiers in '%$(messages_repeat 62 1)'... are not expanded [Specifier]
 Mon\\\\\n$(messages_repeat 58 ' ')\\\\\n25:00|error: hour in 'Mon  25:00': out of range 0-23 [OutOfRange]
-*:0/25$(messages_repeat 55 ' ')UTC|warning: systemd 252 may pass over starts of '*:0/25$(messages_repeat 55 ' ')UTC': give the step an end [SkippedStarts]
-*:0/25$(messages_repeat 56 ' ')UTC|warning: systemd 252 may pass over starts of '*:0/25$(messages_repeat 56 ' ')UT'...: give the step an end [SkippedStarts]
+*:$(messages_repeat 19 '25,')00/25|warning: systemd 252 may pass over starts of '*:$(messages_repeat 19 '25,')00/25': give the step an end [SkippedStarts]
+*:$(messages_repeat 19 '25,')000/25|warning: systemd 252 may pass over starts of '*:$(messages_repeat 19 '25,')000/2'...: give the step an end [SkippedStarts]
 Mon$(messages_repeat 56 ' ')24:00|error: hour in 'Mon$(messages_repeat 56 ' ')24:00': out of range 0-23 [OutOfRange]
 Mon$(messages_repeat 56 ' ')\\\\\n24:00|error: hour in 'Mon$(messages_repeat 57 ' ')24:0'...: out of range 0-23 [OutOfRange]
 ROWS
@@ -396,7 +395,7 @@ RandomizedDelaySec=5min|starts up to '5min' later than planned (RandomizedDelayS
 RandomizedDelaySec=1\nRandomizedDelaySec = 1h\t30min |starts up to '1h\x0930min' later than planned (RandomizedDelaySec=) [Delayed]
 RandomizedDelaySec=1h\nRandomizedDelaySec=|starts up to '1h' later than planned (RandomizedDelaySec=) [Delayed]
 RandomizedDelaySec=1h\\\\\n30µs\r|starts up to '1h 30µs' later than planned (RandomizedDelaySec=) [Delayed]
-RandomizedDelaySec=infinity|starts up to 'infinity' later than planned (RandomizedDelaySec=) [Delayed]
+RandomizedDelaySec=1 h 2 min|starts up to '1 h 2 min' later than planned (RandomizedDelaySec=) [Delayed]
 RandomizedDelaySec=$(messages_repeat 63 0)5|starts up to '$(messages_repeat 63 0)5' later than planned (RandomizedDelaySec=) [Delayed]
 RandomizedDelaySec=$(messages_repeat 64 0)5|starts up to '$(messages_repeat 64 0)'... later than planned (RandomizedDelaySec=) [Delayed]
 RandomizedDelaySec=$(messages_repeat 62 0)5µs|starts up to '$(messages_repeat 62 0)5'... later than planned (RandomizedDelaySec=) [Delayed]
@@ -407,7 +406,7 @@ messages_more=$(messages_repeat 58 n)
 messages_file latin '@daily \xe4\n'
 messages_file latin.timer '[Timer]\nOnCalendar=daily \xe4\n'
 messages_file unit.timer '[Unit]\n'
-messages_file empty.timer '[Timer]\n'
+messages_file empty.timer '[Timer]\nOnClockChange=yes\n'
 messages_file one/d.timer '[Timer]\nOnCalendar=daily\n'
 messages_file two/d.timer '[Timer]\nOnCalendar=25:00\n'
 messages_file a@.timer '[Timer]\nOnCalendar=daily\n'
@@ -437,7 +436,7 @@ latin.timer|latin.timer: error: not UTF-8 [NotUtf8]
 large.timer|large.timer: error: larger than 1048576 bytes [TooLarge]
 --cron-d a.b|a.b: error: not a name that cron reads [BadTabName]
 --spool .a|.a: error: not a name that cron reads [BadTabName]
-daily|daily: error: not a timer's name: it must end in .timer and name no template [BadTimerName];daily: error: no [Timer] section [NoTimerSection]
+daily|daily: error: not a timer's name: it must end in .timer and name no template (for a crontab, use --crontab or --cron-d) [BadTimerName];daily: error: no [Timer] section [NoTimerSection]
 a@.timer|a@.timer: error: not a timer's name: it must end in .timer and name no template [BadTimerName]
 ./a@b.timer|./a@b.timer: error: not a timer's name: it must end in .timer and name no template [BadTimerName]
 unit.timer|unit.timer: error: no [Timer] section [NoTimerSection]

@@ -262,6 +262,10 @@ Options:
                             or the path of a TZif file; UTC if it isn't given
       --event-zones         Read events that end with a time zone, such as
                             'Mon..Fri 09:00 Europe/Berlin'
+      --deny <CODE>         Print this warning as an error, with status 1; all is
+                            every warning; may be given more than once
+      --allow <CODE>        Don't print this warning, even with --deny all; may be
+                            given more than once
       --json                Print each line as a JSON object; agenda(1)
                             describes the keys
       --crontab <F>         A user's crontab, as 'crontab -l' prints it
@@ -278,8 +282,12 @@ warnings, as PATH:LINE: warning: TEXT [CODE], about lines that are valid but may
 what you intended. A message about a whole file has no line number. The exit status is 1
 if there is an error, otherwise 0. 'agenda explain CODE' says what to do about each CODE.
 
-Example:
+A comment '# agenda: allow CODE ..' directly above a line allows these warnings there; at
+the head of a file, it allows them in the whole file.
+
+Examples:
   agenda check --crontab jobs backup.timer
+  agenda check --deny all --allow EitherDay --cron-d etc/cron.d/backup
 END
 }
 
@@ -626,6 +634,8 @@ check|--limit=1 => error: unexpected argument '--limit' found
 check|--delays => error: unexpected argument '--delays' found
 check|--local => error: unexpected argument '--local' found
 check|--json|--json => error: the argument '--json' cannot be used multiple times
+check|--deny => error: a value is required for '--deny <CODE>' but none was supplied
+check|--allow=Percent|--allow => error: a value is required for '--allow <CODE>' but none was supplied
 check|--json=yes => error: unexpected value 'yes' for '--json' found; no more were expected
 check|--cron=@daily => error: unexpected argument '--cron' found
 check|--calendar=daily => error: unexpected argument '--calendar' found
@@ -859,9 +869,9 @@ words_ask_for_check() {
   words_ask_for_text "check|--crontab|jobs|--system-crontab=etc/crontab|--cron-d|jobs|b.timer|--spool|etc/crontab|--|--limit.timer" </dev/null
   words_ask_for_findings "check|b.timer|--cron-d=my jobs-ä|--|jobs|--limit" <<'END'
 my jobs-ä: error: not a name that cron reads [BadTabName]
-jobs: error: not a timer's name: it must end in .timer and name no template [BadTimerName]
+jobs: error: not a timer's name: it must end in .timer and name no template (for a crontab, use --crontab or --cron-d) [BadTimerName]
 jobs: error: no [Timer] section [NoTimerSection]
---limit: error: not a timer's name: it must end in .timer and name no template [BadTimerName]
+--limit: error: not a timer's name: it must end in .timer and name no template (for a crontab, use --crontab or --cron-d) [BadTimerName]
 END
   words_ask_for_findings "check|a.timer|a.timer|--spool|jobs|--spool=jobs|--cron-d|etc/crontab" <<'END'
 jobs:1: error: another job is named 'jobs:1' [SameName]

@@ -8,6 +8,8 @@ export LC_ALL=C
 machines=$1
 mkdir -p -- "$machines"
 cp -R -- "$(dirname "$(readlink -f "$0")")/roots/." "$machines/"
+# cron ignores a user's crontab of another mode
+chmod 600 -- "$machines"/*/var/spool/cron/crontabs/*
 for machine in "$machines"/*/; do
   mkdir -p -- "$machine/usr/sbin"
   : >"$machine/usr/sbin/cron"
@@ -18,7 +20,7 @@ done
 while IFS='|' read -r link text; do
   mkdir -p -- "$machines/${link%/*}"
   ln -s -- "$text" "$machines/$link"
-  [[ $link != *.timer ]] || echo '[Service]' >"$machines/${link%%/*}${text%.timer}.service"
+  [[ $link != *.timer ]] || printf '[Service]\nExecStart=/bin/true\n' >"$machines/${link%%/*}${text%.timer}.service"
 done <<'LINKS'
 db 1/etc/systemd/system/timers.target.wants/archive.timer|/lib/systemd/system/archive.timer
 web-1/etc/localtime|/usr/share/zoneinfo/Europe/Berlin

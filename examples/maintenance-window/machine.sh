@@ -16,5 +16,5 @@ printf '[Unit]\nWants=timers.target\n' >"$units/default.target"
 echo '[Unit]' >"$units/timers.target"
 for timer in apt-daily apt-daily-upgrade dpkg-db-backup e2scrub_all fstrim man-db; do
   ln -sf -- "/usr/lib/systemd/system/$timer.timer" "$wants/$timer.timer"
-  echo '[Service]' >"$units/$timer.service"
+  printf '[Service]\nExecStart=/bin/true\n' >"$units/$timer.service"
 done

@@ -15,13 +15,19 @@
 # their order, C for etc/cron.d, S for the spool directory of Debian, T and F for those of SUSE and Fedora, and
 # D for the directory of the enablement links of x.target in E.
 #
-# Each root has the cron daemon usr/sbin/cron too, unless machine_has_cron is `no`.
+# Each root has the cron daemon usr/sbin/cron too, or the one that machine_daemon names, unless machine_has_cron is `no`. Only
+# Debian's cron, and cronie, ignore crontabs that agenda can read: rows that aren't about that name another daemon.
+#
+# A file below var/spool/cron or opt has the mode 0600, as cron demands of a user's crontab. If the rows run as root, and the program doesn't, the root
+# belongs to its user, so that cron's demands don't count, and these files can be read.
 
 machine_folder=$work/machine
 # What comes before the program's own name, such as a program that drops permissions.
 machine_by=()
 machine_root=root
 machine_has_cron=yes
+machine_daemon=usr/sbin/cron
+machine_owner=
 declare -A machine_short=(
   [E]=etc/systemd/system [R]=run/systemd/system [L]=usr/local/lib/systemd/system [B]=lib/systemd/system [U]=usr/lib/systemd/system
   [C]=etc/cron.d [S]=var/spool/cron/crontabs [T]=var/spool/cron/tabs [F]=var/spool/cron [D]=etc/systemd/system/x.target.wants
@@ -81,6 +87,14 @@ machine_entry() {
       esac
       ;;
   esac
+  case ${path#"$machine_folder/$machine_root/"} in
+    var/spool/cron/* | opt/*) [ -n "$machine_owner" ] || machine_close "$path" ;;
+  esac
+}
+
+# Lets nobody but the owner read and write a file, as cron demands of a user's crontab.
+machine_close() {
+  [ -L "$1" ] || [ ! -f "$1" ] || chmod 600 -- "$1"
 }
 
 # Makes a new root from the description $1.
@@ -89,11 +103,12 @@ machine_make() {
   local -a entries
   rm -rf -- "${machine_folder:?}/$machine_root"
   mkdir -p -- "$machine_folder/$machine_root"
+  [ -z "$machine_owner" ] || chown "$machine_owner" -- "$machine_folder/$machine_root"
   IFS=$' \n' read -r -d '' -a entries <<<"$1"
   for entry in "${entries[@]}"; do
     machine_entry "$entry"
   done
-  [ "$machine_has_cron" = no ] || machine_entry usr/sbin/cron
+  [ "$machine_has_cron" = no ] || machine_entry "$machine_daemon"
 }
 
 # Sets `tzif` to the escaped text of a TZif file: $1 seconds east of UTC, with the name $2, in 1970, and the
@@ -120,6 +135,7 @@ machine_east=$tzif
 machine_as_nobody() {
   [ "$(id -u)" = 0 ] || return 0
   machine_by=(setpriv --reuid=65534 --regid=65534 --clear-groups)
+  machine_owner=65534
   command -v setpriv >/dev/null && "${machine_by[@]}" true 2>/dev/null || return
   chmod 711 "$work"
   chmod 1777 "$machine_folder"

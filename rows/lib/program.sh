@@ -129,6 +129,8 @@ program_compare() {
 #   wanted PATH UNIT    only UNIT wants the timer, and isn't reached
 #   missing PATH UNIT   the timer isn't planned, because its unit is missing
 #   mask PATH UNIT      the same, because its unit is masked
+#   idle PATH UNIT      the same, because its unit has no command
+#   not PATH WHY        cron ignores the crontab, for WHY; PATH may end in `:LINE`. In WHY `;` is a comma
 #   anacron, monotonic PATH, at PATH, user PATH    jobs that aren't planned
 #   cron                no cron daemon
 #   zone                the zone is unknown
@@ -146,6 +148,8 @@ program_lines() {
       wanted) why="wanted by $why alone, which the boot does not start" line=skipped ;;
       missing) why="its unit $why is missing" line='not planned:' ;;
       mask) why="its unit $why is masked" line='not planned:' ;;
+      idle) why="its unit $why has no ExecStart=" line='not planned:' ;;
+      not) why=${why//;/,} line='not planned:' ;;
       anacron) path=etc/anacrontab why='anacron starts jobs by days since they ran' line='not planned:' ;;
       monotonic) why='starts by OnBootSec= or the like' line='not planned:' ;;
       at) why='jobs of at' line='not planned:' ;;

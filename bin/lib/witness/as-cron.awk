@@ -1,6 +1,6 @@
-# as_read(text, way) returns what Debian's cron makes of a rule that agenda rejects, as a rule that agenda
-# accepts. No rule is known that agenda accepts and cron rejects (way `witness`). Each change is recorded by
-# its name in docs/DIFFERENCES.md, with the codes of agenda's errors for it.
+# as_read(text) returns what Debian's cron makes of a rule that agenda rejects, as a rule that agenda accepts. No rule is known
+# that agenda accepts and cron rejects. Each change is recorded by its name in docs/DIFFERENCES.md, with the codes of
+# agenda's errors for it.
 
 function value(word, at) {
   at = index("janfebmaraprmayjunjulaugsepoctnovdec", tolower(word))
@@ -50,8 +50,7 @@ function field_as_read(field, all, first, kept, element) {
   return kept
 }
 
-function as_read(text, way, words, n, at) {
-  if (way == "witness") return text
+function as_read(text, words, n, at) {
   gsub(/^[ \t]+|[ \t]+$/, "", text)
   n = split(text, words, /[ \t]+/)
   if (n > (text ~ /^@/ ? 1 : 5)) note("further words", text ~ /^@/ ? "UnknownWord" : "WrongParts")

@@ -22,17 +22,22 @@ copy_systemd() {
   return 1
 }
 
-# Prints the units that systemd would start below the root $1, one per line. Its log is in $1.log.
-started_units() {
+# Prints what systemd's test mode says about the boot below the root $1. Its log is in $1.log, and has what is as grave as $2.
+test_boot() {
   local chroot
   chroot=$(PATH=$PATH:/usr/sbin:/sbin command -v chroot) || return
   mkdir -p -- "$1"/{run,tmp,proc,sys,dev,sd} && : >>"$1/dev/null" && chown -R 65534 "$1/run" "$1/tmp" || return
   # shellcheck disable=SC2016
   unshare -m bash -c '
     mount --bind "$2" "$1/sd" && mount --bind /proc "$1/proc" && mount --rbind /sys "$1/sys" && mount --bind /dev/null "$1/dev/null" &&
-      exec env -i PATH=/usr/bin SYSTEMD_LOG_LEVEL=debug SYSTEMD_LOG_TARGET=console timeout 20 "$4" --userspec=65534:65534 "$1" \
+      exec env -i PATH=/usr/bin SYSTEMD_LOG_LEVEL="$5" SYSTEMD_LOG_TARGET=console timeout 20 "$4" --userspec=65534:65534 "$1" \
         "/sd/$3" --library-path /sd /sd/systemd --test --system --unit=default.target' \
-    - "$1" "$work/systemd" "$loader" "$chroot" 2>"$1.log" </dev/null | sed -n 's/^[[:blank:]]*Action: \(.*\) -> start$/\1/p' | sort -u
+    - "$1" "$work/systemd" "$loader" "$chroot" "$2" 2>"$1.log" </dev/null
+}
+
+# Prints the units that systemd would start below the root $1, one per line. Its log is in $1.log.
+started_units() {
+  test_boot "$1" debug | sed -n 's/^[[:blank:]]*Action: \(.*\) -> start$/\1/p' | sort -u
 }
 
 # Tests whether systemd's test mode runs here, by a root that has one unit.

@@ -22,7 +22,7 @@ start_targets() {
   echo '[Unit]' >"$units/default.target"
   while IFS= read -r path; do
     name=${path##*/}
-    echo '[Service]' >"$units/${name%.timer}.service"
+    printf '[Service]\nExecStart=/bin/true\n' >"$units/${name%.timer}.service"
     while IFS= read -r target; do
       echo '[Unit]' >"$units/$target"
       echo "Wants=$target" >>"$units/default.target"

@@ -178,6 +178,8 @@ BEGIN {
       if (one_in(8)) text = bend(text)
       gsub(/[+]/, " ", text)
     }
+    # a timer has no blanks at the ends of an event
+    if (form == "calendar") gsub(/^[ \t]+|[ \t]+$/, "", text)
     print text
   }
 }

@@ -48,12 +48,12 @@ no_accuracy held tree clock sources = stops (Run NoMemory) refl refl
 
 -- the answer goes by what is planned, and otherwise by what is found on the machine
 pub shown_as_planned :
-    (held : Held) (host : KnownHost) (dir : List ℕ) (jobs : MachineJobs) (machine planned : Machine) (end : Result Shown Failure) →
-    planned ≡ record machine { unplanned = planned.unplanned } →
-    shows_jobs held host dir jobs planned planned.unplanned.items end →
-    shows_jobs held host dir jobs machine planned.unplanned.items end
-shown_as_planned held host dir jobs machine planned end same shown =
-    subst (λ (m : Machine). shows_jobs held host dir jobs m planned.unplanned.items end) same shown
+    (held : Held) (host : KnownHost) (dir : List ℕ) (jobs : MachineJobs) (machine planned : Machine) (sources : List Source)
+    (end : Result Shown Failure) → planned ≡ record machine { unplanned = planned.unplanned } →
+    shows_jobs held host dir jobs planned planned.unplanned.items sources end →
+    shows_jobs held host dir jobs machine planned.unplanned.items sources end
+shown_as_planned held host dir jobs machine planned sources end same shown =
+    subst (λ (m : Machine). shows_jobs held host dir jobs m planned.unplanned.items sources end) same shown
 
 -- standard error failed, which it doesn't if nothing is reported
 pub told_off :

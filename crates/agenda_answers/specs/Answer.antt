@@ -9,6 +9,7 @@ use Rattle.agenda_faults.specs.declared.faults.RunFault.{RunFault}
 use Rattle.agenda_faults.specs.declared.faults.RunFault.TheVariants as run
 use Rattle.agenda_faults.specs.declared.faults.Failure.{Failure}
 use Rattle.agenda_faults.specs.declared.faults.Failure.TheVariants.{Usage, Run, File}
+use Rattle.agenda_policy.specs.declared.Policy.{Policy}
 use Rattle.agenda_sources.specs.declared.SourcePath.{SourcePath}
 use Rattle.agenda_faults.specs.FaultLines.{fault_text}
 use Rattle.agenda_faults.specs.Faults.{status_of}
@@ -79,10 +80,10 @@ status_on WithoutErrors = done_status
 status_on WithErrors = rejected_status
 
 -- `check`: the zone is read first, then the files and the zones of events; after that only an allocation can fail
-abbrev pub check_ends : Held → ZonesRequest → List SourcePath → (json : Bool) → Step Printed
-check_ends held zones paths json = do
+abbrev pub check_ends : Held → ZonesRequest → List SourcePath → Policy → (json : Bool) → Step Printed
+check_ends held zones paths policy json = do
   input ← input_of false held zones paths
-  outputs (status_on (sources_checked input.1 input.0.sources)) (check_output input.1 paths input.0.sources json)
+  outputs (status_on (sources_checked policy input.1 input.0.sources)) (check_output policy input.1 paths input.0.sources json)
 
 -- `steps`: the file is read first, then the script in it is run
 abbrev pub steps_ends : Held → List ℕ → Step Printed

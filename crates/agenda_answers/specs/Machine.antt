@@ -12,6 +12,7 @@ use Rattle.plan_machine.specs.Machine.{AreTooManyUnits, IsMachine}
 use Rattle.plan_machine.specs.declared.machine.Machine.{Machine}
 use Rattle.plan_machine.specs.declared.NotPlanned.{NotPlanned}
 use Rattle.agenda_arguments.specs.declared.MachineRequest.{MachineRequest}
+use Rattle.agenda_arguments.specs.declared.MachineCheck.{MachineCheck}
 use Rattle.agenda_arguments.specs.declared.MachineJobs.{MachineJobs}
 use Rattle.agenda_arguments.specs.declared.MachineQuestion.{MachineQuestion}
 use Rattle.agenda_arguments.specs.declared.MachineQuestion.TheVariants as question
@@ -21,6 +22,7 @@ use Rattle.agenda_faults.specs.declared.faults.RunFault.{RunFault}
 use Rattle.agenda_faults.specs.declared.faults.RunFault.TheVariants as run
 use Rattle.plan_collect.specs.declared.CollectFault.TheVariants as collect
 use Rattle.plan_collect.specs.declared.PlanFault.TheVariants as plan
+use Rattle.agenda_commands.specs.Check.{reported}
 use Rattle.agenda_commands.specs.Form.{AnswersForm, origin_of}
 use Rattle.agenda_commands.specs.Remark.{remark_of}
 use Rattle.agenda_commands.specs.declared.RemarkedAnswer.{RemarkedAnswer}
@@ -33,10 +35,11 @@ use Rattle.agenda_findings.specs.Findings.{check_text}
 use Rattle.agenda_findings.specs.Skipped.{skipped_text}
 use Rattle.agenda_machine.specs.JobFiles.{files_of_jobs}
 use Rattle.agenda_machine.specs.Listing.{sources_text}
-use Rattle.agenda_machine.specs.Monotonic.{with_monotonic}
+use Rattle.agenda_machine.specs.Loaded.{loaded_sources, unplanned_jobs}
 use Rattle.agenda_machine.specs.Places.{located, paths_of, sources_of}
 use Rattle.agenda_machine.specs.Reports.{is_incomplete, is_reported, lines_of}
-use Rattle.agenda_sources.specs.Findings.{is_all_clean, kept_jobs, sources_errors, sources_findings}
+use Rattle.agenda_policy.specs.declared.Policy.{Policy}
+use Rattle.agenda_sources.specs.Findings.{is_all_clean, kept_jobs, sources_errors}
 use Rattle.agenda_sources.specs.ZoneNames.{zone_names}
 use Rattle.agenda_sources.specs.declared.Found.{Found}
 use Rattle.agenda_sources.specs.declared.Source.{Source}
@@ -163,9 +166,10 @@ shown_of dir machine is_zone_unknown rest = shown_with dir machine machine.unpla
 abbrev pub shows_sources : (dir : List ℕ) → (json : Bool) → Machine → Step Shown
 shows_sources dir json machine = gives (shown_of dir machine false (sources_rest dir json machine))
 
--- the findings in the sources of a machine, each with the path and the line of the file that it is in
-abbrev pub found_in : Machine → TimeZones → List Source → List Found
-found_in machine zones sources = located machine.sources.items (sources_findings zones sources)
+-- the findings in the sources of a machine that are reported under a policy, each with the path and the line of the file that it is
+-- in. Comments count as they are in the text that is read
+abbrev pub found_in : Policy → Machine → TimeZones → List Source → List Found
+found_in policy machine zones sources = located machine.sources.items (reported policy zones sources)
 
 -- the errors in the sources of a machine, likewise
 abbrev pub errors_in : Machine → TimeZones → List Source → List Found
@@ -185,12 +189,12 @@ machine_zones held tree clock sources = do
   gives (with_accuracy accuracy zones)
 
 -- `check`: the zone is read first, and then the zones of events
-abbrev pub shows_findings : Held → KnownTree → (dir : List ℕ) → (zone : Option (List ℕ)) → (json : Bool) → Machine → Step Shown
-shows_findings held tree dir zone json machine = do
-  clock ← machine_clock held tree (root_of dir) zone
+abbrev pub shows_findings : Held → KnownTree → (dir : List ℕ) → MachineCheck → Machine → Step Shown
+shows_findings held tree dir check machine = do
+  clock ← machine_clock held tree (root_of dir) check.zone
   zones ← machine_zones held tree clock.clock (sources_of machine.sources.items)
   computes (shown_of dir machine clock.is_unknown
-      (findings_rest dir json machine (found_in machine zones (sources_of machine.sources.items))))
+      (findings_rest dir check.json machine (found_in check.policy machine zones (sources_of machine.sources.items))))
 
 -- the jobs that are left: without the errors, and without the jobs with these names
 abbrev pub kept_in : (except : List (List ℕ)) → TimeZones → List Source → List JobParts
@@ -253,37 +257,41 @@ jobs_rest false paths errors answers = do
   answer ← answers
   gives (plans answer.0 answer.1)
 
--- the answer for the jobs of a machine, in these time zones
+-- the answer for the jobs of a machine, in these time zones. Errors are those of all its sources, and jobs those of the sources that are
+-- loaded
 abbrev pub shows_jobs_in :
-    (dir : List ℕ) → MachineJobs → KnownHost → Goal → Machine → (unplanned : List NotPlanned) → ZoneClock → TimeZones → Step Shown
-shows_jobs_in dir jobs host goal machine unplanned clock zones = do
+    (dir : List ℕ) → MachineJobs → KnownHost → Goal → Machine → (unplanned : List NotPlanned) → (planned : List Source) → ZoneClock →
+    TimeZones → Step Shown
+shows_jobs_in dir jobs host goal machine unplanned planned clock zones = do
   form ← form_made (record { format = jobs.format; table = jobs.table }) (origin_of goal host.time) host.frame clock.name
       (unnamed_zone clock.is_of_file) zones.clock
   errors ← computes (errors_in machine zones (sources_of machine.sources.items))
   rest ← jobs_rest (is_stopped jobs.strict errors) (paths_of false (root_of dir) machine.sources.items) errors
       (answers_said dir machine (paths_of false (root_of dir) machine.sources.items) errors form goal
-      (kept_in jobs.except zones (sources_of machine.sources.items)))
+      (kept_in jobs.except zones planned))
   gives (shown_with dir machine unplanned clock.is_unknown rest)
 
 -- `upcoming`, `plan` and `quiet`: the zone is read first, then the times, and then the zones of events
-abbrev pub shows_jobs : Held → KnownHost → (dir : List ℕ) → MachineJobs → Machine → (unplanned : List NotPlanned) → Step Shown
-shows_jobs held host dir jobs machine unplanned = do
+abbrev pub shows_jobs :
+    Held → KnownHost → (dir : List ℕ) → MachineJobs → Machine → (unplanned : List NotPlanned) → (planned : List Source) → Step Shown
+shows_jobs held host dir jobs machine unplanned planned = do
   clock ← machine_clock held host.tree (root_of dir) jobs.zone
   goal ← goal_at host.time clock.clock jobs
   zones ← machine_zones held host.tree clock.clock (sources_of machine.sources.items)
-  shows_jobs_in dir jobs host goal machine unplanned clock zones
+  shows_jobs_in dir jobs host goal machine unplanned planned clock zones
 
 -- the machine that the program runs on, below a root
 abbrev pub host_below : KnownHost → (root : List ℕ) → KnownHost
 host_below host root = record { tree = tree_below host.tree root; time = host.time; frame = host.frame }
 
--- the answer to a question. For jobs, timers that start by monotonic settings alone are among what isn't planned
+-- the answer to a question. For jobs, timers that start by monotonic settings alone are among what isn't planned, and so is what the
+-- daemons don't load
 abbrev pub shows : Held → KnownHost → (dir : List ℕ) → MachineQuestion → Machine → Step Shown
 shows held host dir (question.Jobs jobs) machine = do
-  unplanned ← computes (with_monotonic machine.sources.items machine.unplanned.items)
-  shows_jobs held (host_below host (root_of dir)) dir jobs machine unplanned
+  unplanned ← computes (unplanned_jobs machine)
+  shows_jobs held (host_below host (root_of dir)) dir jobs machine unplanned (loaded_sources machine)
 shows held host dir (question.Sources json) machine = shows_sources dir json machine
-shows held host dir (question.Check zone json) machine = shows_findings held (tree_below host.tree (root_of dir)) dir zone json machine
+shows held host dir (question.Check check) machine = shows_findings held (tree_below host.tree (root_of dir)) dir check machine
 
 -- the same, once the machine's sources are found
 abbrev pub machine_ends : Held → KnownHost → MachineRequest → Step Shown

@@ -33,7 +33,7 @@ AnswersBy step sources status out err =
 abbrev pub AnswersRequest : Held → KnownHost → Request → Answering
 AnswersRequest held host (Starts starts) = AnswersBy (next_ends held starts) []
 AnswersRequest held host (Jobs goal jobs) = AnswersJobs held goal jobs
-AnswersRequest held host (Check zones sources json) = AnswersBy (check_ends held zones sources json) sources
+AnswersRequest held host (Check zones sources policy json) = AnswersBy (check_ends held zones sources policy json) sources
 AnswersRequest held host (Steps file) = AnswersBy (steps_ends held file) []
 AnswersRequest held host (Explain code) = AnswersBy (explain_ends code) []
 AnswersRequest held host (Machine machine) = AnswersMachine held host machine

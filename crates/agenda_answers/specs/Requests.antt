@@ -61,7 +61,7 @@ request_of (Upcoming after jobs) = do
 request_of (Quiet plan least) = do
   planning ← planning_of plan
   gives (request.Jobs (goal.Quiet planning least) plan.jobs)
-request_of (Check zones sources json) = gives (request.Check zones sources json)
+request_of (Check zones sources policy json) = gives (request.Check zones sources policy json)
 request_of (Steps file) = gives (request.Steps file)
 request_of (Explain code) = gives (request.Explain code)
 request_of (Machine machine) = gives (request.Machine machine)

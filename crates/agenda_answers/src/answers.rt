@@ -16,6 +16,7 @@ use agenda_commands::{Checked, run_check, run_explain, run_next, run_script};
 use agenda_faults::status::{DONE, REJECTED};
 use agenda_faults::{Failure, RunFault, fault_line};
 use agenda_inputs::{Files, read_input, read_path, read_rule_zones};
+use agenda_policy::Policy;
 use agenda_sources::{SourcePath, SourcePaths};
 use plan_rules::Text;
 use plan_streams::Stream;
@@ -121,9 +122,10 @@ fn answer_request<R: Threads + Wait + Sync, F: Files, T: Complete, O: Stream, E:
         Request::Check {
             zones,
             sources,
+            policy,
             json,
         } => {
-            let done = check(alloc, zones, sources, *json, files, out);
+            let done = check(alloc, zones, sources, policy, *json, files, out);
             end(done, sources.as_slice(), err)
         }
         Request::Steps { file } => end(steps(alloc, file, files, out), &[], err),
@@ -214,15 +216,24 @@ fn check<F: Files, S: Stream>(
     alloc: Global,
     zones: &ZonesRequest,
     paths: &SourcePaths,
+    policy: &Policy,
     json: bool,
     files: &mut F,
     out: &mut S,
 ) -> Result<u8, Failure>
-    ensures ends { Leaves S.takes_all (check_ends (F.held files.old) zones.now paths.now json) result (S.holds out.old) (S.holds out.new) }
+    ensures ends { Leaves S.takes_all (check_ends (F.held files.old) zones.now paths.now policy.now json) result (S.holds out.old) (S.holds out.new) }
     ensures flushed { OnOk result (IsTrue (S.is_flushed out.new)) }
 {
     let (tried, zones) = read_input(alloc, files, zones, paths, false)?;
-    let checked = run_check(alloc, paths.as_slice(), &tried.sources, &zones, json, out)?;
+    let checked = run_check(
+        alloc,
+        paths.as_slice(),
+        &tried.sources,
+        &zones,
+        policy,
+        json,
+        out,
+    )?;
     Ok(status_on(checked))
 }
 

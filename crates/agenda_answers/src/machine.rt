@@ -8,6 +8,7 @@ ghost use Rattle.agenda_answers.specs.Machine.{AnswersMachine, answers_said, dir
 ghost use Rattle.agenda_answers.specs.Machine.{errors_in, findings_rest, is_root, machine_below, machine_ends, machine_if, machine_of};
 ghost use Rattle.agenda_answers.specs.Machine.{is_stopped, kept_in, machine_zones, naming_limit, parted, rest_of, shows_findings, shows_jobs};
 ghost use Rattle.agenda_machine.specs.JobFiles.{files_of_jobs};
+ghost use Rattle.agenda_sources.specs.Findings.{kept_jobs, sources_errors};
 ghost use Rattle.agenda_machine.specs.Places.{paths_of};
 ghost use Rattle.agenda_machine.specs.Root.{root_of};
 
@@ -17,13 +18,14 @@ use crate::host::Host;
 use crate::jobs::{Outcome, settled};
 use crate::machine_answer::{MachineAnswer, Printout, Site, Skipped, show, status_of};
 use crate::machine_goal::goal_at;
-use agenda_arguments::{MachineJobs, MachineQuestion, MachineRequest};
+use agenda_arguments::{MachineCheck, MachineJobs, MachineQuestion, MachineRequest};
 use agenda_commands::{Form, Goal, PreparedAnswer, RemarkedAnswer, are_warnings, prepare_remarked};
 use agenda_faults::{Failure, RunFault};
 use agenda_inputs::{Files, MOST_READ, MachineFiles, machine_clock, read_zones};
 use agenda_machine::{
-    dir_of, files_of_jobs, located, paths_of, root_of, sources_of, with_monotonic,
+    LoadedMachine, dir_of, files_of_jobs, located, paths_of, root_of, sources_of, with_loaded,
 };
+use agenda_policy::judged;
 use agenda_sources::{
     Found, Kept, SourcePaths, Sources, TimeZones, findings_of_sources, kept_of_sources, zone_names,
 };
@@ -84,8 +86,8 @@ fn make_answer<'a, R: Threads + Wait + Sync, F: Files, T: Complete>(
                 time: host.time,
                 frame: host.frame,
             };
-            let machine = with_monotonic(alloc, machine)?;
-            jobs_answer(rt, alloc, files, &host, dir, jobs, machine)
+            let loaded = with_loaded(alloc, machine)?;
+            jobs_answer(rt, alloc, files, &host, dir, jobs, loaded)
         }
         MachineQuestion::Sources { json } => Ok(MachineAnswer {
             site: Site {
@@ -95,9 +97,7 @@ fn make_answer<'a, R: Threads + Wait + Sync, F: Files, T: Complete>(
             },
             printout: Printout::Sources { json: *json },
         }),
-        MachineQuestion::Check { zone, json } => {
-            check_answer(alloc, files, &below, dir, zone, *json, machine)
-        }
+        MachineQuestion::Check(check) => check_answer(alloc, files, &below, dir, check, machine),
     }
 }
 
@@ -164,16 +164,15 @@ fn check_answer<'a, F: Files, T: Tree>(
     files: &mut F,
     tree: &T,
     dir: &'a str,
-    zone: &Option<Text>,
-    json: bool,
+    check: &MachineCheck,
     machine: Machine,
 ) -> Result<MachineAnswer<'a>, Failure>
-    ensures { shows_findings (F.held files.old) (record { is_known = T.is_known; held = T.held tree.now }) dir.now zone.now json machine result }
+    ensures { shows_findings (F.held files.old) (record { is_known = T.is_known; held = T.held tree.now }) dir.now check.now machine result }
 {
-    let clock = machine_clock(alloc, files, tree, root_of(dir), zone)?;
+    let clock = machine_clock(alloc, files, tree, root_of(dir), &check.zone)?;
     let sources = sources_of(alloc, machine.sources.as_slice())?;
     let zones = machine_zones(alloc, files, tree, clock.clock, &sources)?;
-    let printout = findings_of(alloc, dir, &machine, &sources, &zones, json)?;
+    let printout = findings_of(alloc, dir, &machine, &sources, &zones, check)?;
     Ok(MachineAnswer {
         site: Site {
             dir,
@@ -205,20 +204,22 @@ fn machine_zones<F: Files, T: Tree>(
     Ok(zones)
 }
 
-// Finds what is wrong with the sources of a machine.
+// Finds what is reported on the sources of a machine.
 fn findings_of(
     alloc: Global,
     dir: &str,
     machine: &Machine,
     sources: &Sources,
     zones: &TimeZones,
-    json: bool,
+    check: &MachineCheck,
 ) -> Result<Printout, AllocError>
     ensures { IfOk result (λ printout. rest_of dir.now machine.now printout
-        ≡ findings_rest dir.now json machine.now (found_in machine.now zones.now sources.now)) }
+        ≡ findings_rest dir.now check.now.json machine.now (found_in check.now.policy machine.now zones.now sources.now)) }
 {
     let found = findings_of_sources(alloc, sources, zones)?;
+    let found = judged(alloc, &check.policy, sources, found)?;
     let found = located(machine.sources.as_slice(), found)?;
+    let json = check.json;
     let paths = paths_of(alloc, root_of(dir), machine.sources.as_slice(), json)?;
     Ok(Printout::Findings { paths, found, json })
 }
@@ -231,11 +232,15 @@ fn jobs_answer<'a, R: Threads + Wait + Sync, F: Files, T: Tree>(
     host: &Host<'_, T>,
     dir: &'a str,
     jobs: &MachineJobs,
-    machine: Machine,
+    loaded: LoadedMachine,
 ) -> Result<MachineAnswer<'a>, Failure>
     ensures { shows_jobs (F.held files.old) (host_of T.is_known (T.held host.now.tree.now) host.now.time host.now.frame) dir.now jobs.now
-        machine machine.unplanned.items result }
+        loaded.machine loaded.machine.unplanned.items loaded.planned result }
 {
+    let LoadedMachine {
+        machine,
+        planned: loads,
+    } = loaded;
     let clock = machine_clock(alloc, files, host.tree, root_of(dir), &jobs.zone)?;
     let goal = goal_at(alloc, host.time, &clock.clock, jobs)?;
     let sources = sources_of(alloc, machine.sources.as_slice())?;
@@ -256,7 +261,11 @@ fn jobs_answer<'a, R: Threads + Wait + Sync, F: Files, T: Tree>(
         &zones.clock,
     )?;
     let except = jobs.except.as_slice();
-    let (skipped, kept) = kept_of(alloc, dir, &machine, &sources, &zones, except)?;
+    let read = ReadSources {
+        all: &sources,
+        planned: &loads,
+    };
+    let (skipped, kept) = kept_of(alloc, dir, &machine, read, &zones, except)?;
     let site = Site {
         dir,
         machine,
@@ -365,21 +374,45 @@ fn is_stopped(strict: bool, errors: &[Found]) -> bool
     strict && !errors.is_empty()
 }
 
-// Finds the errors of a machine's sources, and the jobs that are left without them and without those with these names.
+// The sources of a machine, and those that a plan reads.
+#[derive(Clone, Copy)]
+struct ReadSources<'a> {
+    all: &'a Sources,
+    planned: &'a Sources,
+}
+
+// Finds the errors of all sources of a machine, and the jobs of those that a plan reads, without those with these names.
 fn kept_of(
     alloc: Global,
     dir: &str,
     machine: &Machine,
-    sources: &Sources,
+    sources: ReadSources<'_>,
     zones: &TimeZones,
     except: &[Text],
 ) -> Result<(Skipped, Jobs), AllocError>
     ensures paths { IfOk result (λ kept. kept.0.paths ≡ paths_of false (root_of dir.now) machine.now.sources.items) }
-    ensures errors { IfOk result (λ kept. kept.0.errors.items ≡ errors_in machine.now zones.now sources.now) }
-    ensures jobs { IfOk result (λ kept. kept.1 ≡ kept_in except.now zones.now sources.now) }
+    ensures errors { IfOk result (λ kept. kept.0.errors.items ≡ errors_in machine.now zones.now sources.entry.all.now) }
+    ensures jobs { IfOk result (λ kept. kept.1 ≡ kept_in except.now zones.now sources.entry.planned.now) }
 {
-    let Kept { errors, jobs } = kept_of_sources(alloc, sources, zones)?;
+    let errors = errors_of(alloc, sources.all, zones)?;
     let errors = located(machine.sources.as_slice(), errors)?;
     let paths = paths_of(alloc, root_of(dir), machine.sources.as_slice(), false)?;
+    let jobs = kept_jobs(alloc, sources.planned, zones)?;
     Ok((Skipped { paths, errors }, jobs.without(except)))
+}
+
+// Finds the errors of sources.
+fn errors_of(alloc: Global, sources: &Sources, zones: &TimeZones) -> Result<Vec<Found>, AllocError>
+    ensures { IfOk result (λ errors. errors.items ≡ sources_errors zones.now sources.now) }
+{
+    let Kept { errors, .. } = kept_of_sources(alloc, sources, zones)?;
+    Ok(errors)
+}
+
+// Finds the jobs of sources that are left without errors.
+fn kept_jobs(alloc: Global, sources: &Sources, zones: &TimeZones) -> Result<Jobs, AllocError>
+    ensures { IfOk result (λ jobs. jobs ≡ kept_jobs zones.now sources.now) }
+{
+    let Kept { jobs, .. } = kept_of_sources(alloc, sources, zones)?;
+    Ok(jobs)
 }

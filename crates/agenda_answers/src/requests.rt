@@ -11,6 +11,7 @@ use agenda_arguments::{
 use agenda_codes::Code;
 use agenda_commands::{Goal, Planning};
 use agenda_faults::{Failure, TimeOption};
+use agenda_policy::Policy;
 use agenda_sources::{Asked, SourcePaths};
 use plan_collect::Span;
 use plan_rules::Text;
@@ -49,6 +50,8 @@ pub(crate) enum Request {
         zones: ZonesRequest,
         /// The paths of the sources.
         sources: SourcePaths,
+        /// Which warnings are errors, and which are left out.
+        policy: Policy,
         /// Whether each line is a JSON object.
         json: bool,
     },
@@ -81,10 +84,12 @@ pub(crate) fn request_of(ask: Ask) -> Result<Request, Failure>
         Ask::Check {
             zones,
             sources,
+            policy,
             json,
         } => Ok(Request::Check {
             zones,
             sources,
+            policy,
             json,
         }),
         Ask::Steps { file } => Ok(Request::Steps { file }),

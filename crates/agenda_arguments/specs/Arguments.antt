@@ -16,6 +16,8 @@ use Rattle.agenda_arguments.specs.declared.ask.Ask.{Ask}
 use Rattle.agenda_arguments.specs.declared.ask.Ask.TheVariants.{Next, Plan, Upcoming, Quiet, Check, Steps, Explain, Machine, MachineNext}
 use Rattle.agenda_codes.specs.declared.Code.{Code}
 use Rattle.agenda_codes.specs.Codes.{code_named}
+use Rattle.agenda_policy.specs.declared.Policy.{Policy}
+use Rattle.agenda_policy.specs.Reading.{ValueReading, policy_reading}
 use Rattle.agenda_sources.specs.Asked.{asked_in}
 use Rattle.agenda_sources.specs.declared.Asked.{Asked}
 use Rattle.agenda_sources.specs.declared.Asked.TheVariants.{Cron, Event}
@@ -156,9 +158,20 @@ asked_by_quiet rows = do
   least ← wanted (number_in (one_of (codes "least") rows))
   Ok (Quiet plan least)
 
+-- a policy, or a usage error (agenda)
+abbrev pub policy_or_usage : ValueReading Policy → Result Policy ArgumentsFault
+policy_or_usage (Ok policy) = Ok policy
+policy_or_usage (Err text) = Err is_usage
+
+-- which warnings are errors, and which are left out, by the values of `--deny` and `--allow` (agenda)
+abbrev pub policy_in : List Row → Result Policy ArgumentsFault
+policy_in rows = policy_or_usage (policy_reading (all_values (codes "deny") rows) (all_values (codes "allow") rows))
+
 -- what `check` requests, by its values; there may be no source (agenda)
 abbrev pub asked_by_check : List Row → Result Ask ArgumentsFault
-asked_by_check rows = Ok (Check (zones_in rows) (sources_in rows) (is_given (codes "json") rows))
+asked_by_check rows = do
+  policy ← policy_in rows
+  Ok (Check (zones_in rows) (sources_in rows) policy (is_given (codes "json") rows))
 
 -- what `steps` requests, by its values (agenda)
 abbrev pub asked_by_steps : List Row → Result Ask ArgumentsFault
@@ -211,7 +224,8 @@ asked_by_machine_sources rows = asked_of_machine rows (question.Sources (is_give
 abbrev pub asked_by_machine_check : List Row → Result Ask ArgumentsFault
 asked_by_machine_check rows = do
   zone ← machine_zone (zone_in rows) (is_given (codes "utc") rows)
-  asked_of_machine rows (question.Check zone (is_given (codes "json") rows))
+  policy ← policy_in rows
+  asked_of_machine rows (question.Check (record { zone = zone; policy = policy; json = is_given (codes "json") rows }))
 
 -- how the answer to a question about the jobs of a machine is written: its times are local, unless `--utc` is given (agenda)
 abbrev pub machine_format_in : List Row → FormatRequest

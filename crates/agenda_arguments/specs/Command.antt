@@ -138,9 +138,13 @@ quiet = with_sizes
     (with_each (with_jobs (with_span (new_app (codes "quiet")))) (number_option (codes "least") (codes "1800") ∷ []))
     (codes "1000000")
 
--- `check` with the zones, `[--json]` and the sources (agenda)
+-- which warnings `check` makes errors, and which it leaves out: `[--deny CODE ..] [--allow CODE ..]` (agenda)
+abbrev pub policy_rules : List Rule
+policy_rules = repeated_option (codes "deny") ∷ repeated_option (codes "allow") ∷ []
+
+-- `check` with the zones, the policy, `[--json]` and the sources (agenda)
 unfoldable pub check : App
-check = with_sources (with_each (with_zones (new_app (codes "check"))) (flag_option (codes "json") ∷ []))
+check = with_sources (with_each (with_zones (new_app (codes "check"))) (policy_rules ++ flag_option (codes "json") ∷ []))
 
 -- `steps FILE` (agenda)
 unfoldable pub steps : App
@@ -181,9 +185,10 @@ machine_size_rules = number_option (codes "limit") (codes "1000000") ∷ number_
 abbrev pub machine_form_rules : List Rule
 machine_form_rules = flag_option (codes "table") ∷ flag_option (codes "text") ∷ flag_option (codes "json") ∷ []
 
--- `machine check` with the machine, the zone and `[--json]` (agenda)
+-- `machine check` with the machine, the zone, the policy and `[--json]` (agenda)
 unfoldable pub machine_check : App
-machine_check = with_each (with_machine (new_app (codes "check"))) (machine_zone_rules ++ flag_option (codes "json") ∷ [])
+machine_check = with_each (with_machine (new_app (codes "check")))
+    (machine_zone_rules ++ (policy_rules ++ flag_option (codes "json") ∷ []))
 
 -- `machine upcoming` with the machine, `[--after TIME]`, the zone, `[--except JOB ..]`, `[--delays]`, `[--strict]` and the form (agenda)
 unfoldable pub machine_upcoming : App

@@ -10,7 +10,7 @@ ghost use Rattle.agenda_arguments.specs.Arguments.{sizes_in, zones_in};
 use crate::ask::{
     Ask, FormatRequest, JobsRequest, NextRequest, PlanRequest, UsageFault, ZonesRequest,
 };
-use crate::codes::code_of;
+use crate::codes::{code_of, policy_of};
 use crate::command::agenda_command;
 use crate::machine::asked_about_machine;
 use crate::paths::sources_of;
@@ -219,12 +219,14 @@ pub(crate) fn sizes_of(alloc: Global, given: &ArgMatches<'_>) -> Result<Sizes, U
 fn asked_by_check(alloc: Global, given: &ArgMatches<'_>) -> Result<Ask, UsageFault>
     ensures { Follows result (asked_by_check (rows_of (found_of given.now))) }
 {
+    let policy = policy_of(alloc, given)?;
     let zones = zones_of(alloc, given)?;
     let sources = sources_of(alloc, given)?;
     let json = is_given(given, "json");
     Ok(Ask::Check {
         zones,
         sources,
+        policy,
         json,
     })
 }

@@ -5,6 +5,7 @@ ghost use Rattle.agenda_arguments.specs.Tables.{is_table};
 
 use crate::names::JobNames;
 use agenda_codes::Code;
+use agenda_policy::Policy;
 use agenda_sources::{Asked, SourcePaths};
 use plan_collect::Sizes;
 use plan_texts::Text;
@@ -150,6 +151,17 @@ pub struct MachineJobs {
     pub table: TableRequest,
 }
 
+/// How the crontabs and timers of a machine are checked.
+#[derive(Debug, Drop)]
+pub struct MachineCheck {
+    /// The text of the time zone of the rules. It is that of the machine if this is missing.
+    pub zone: Option<Text>,
+    /// Which warnings are errors, and which are left out.
+    pub policy: Policy,
+    /// Whether each line is a JSON object.
+    pub json: bool,
+}
+
 /// A question about a machine.
 #[derive(Debug, Drop)]
 pub enum MachineQuestion {
@@ -161,12 +173,7 @@ pub enum MachineQuestion {
         json: bool,
     },
     /// Print what is wrong with the crontabs and timers of the machine.
-    Check {
-        /// The text of the time zone of the rules. It is that of the machine if this is missing.
-        zone: Option<Text>,
-        /// Whether each line is a JSON object.
-        json: bool,
-    },
+    Check(MachineCheck),
 }
 
 /// What next starts are listed of by the clock of the machine that the program runs on.
@@ -224,6 +231,8 @@ pub enum Ask {
         zones: ZonesRequest,
         /// The paths of the sources, in the same order as for a plan.
         sources: SourcePaths,
+        /// Which warnings are errors, and which are left out.
+        policy: Policy,
         /// Whether each line is a JSON object.
         json: bool,
     },

@@ -55,6 +55,11 @@ const JSON: CommandOption<'static> = CommandOption::Flag("json", help::JSON);
 
 const LOCAL: CommandOption<'static> = CommandOption::Flag("local", help::LOCAL);
 
+// What `check` makes errors of, and what it leaves out.
+const DENY: CommandOption<'static> = CommandOption::Repeated("deny", "CODE", help::DENY);
+
+const ALLOW: CommandOption<'static> = CommandOption::Repeated("allow", "CODE", help::ALLOW);
+
 // The sizes of a plan, beside its limit.
 const PLANNERS: CommandOption<'static> = CommandOption::Tuning("planners", "2", help::PLANNERS);
 
@@ -199,7 +204,7 @@ fn check_command<'a>(alloc: Global) -> Result<Command<'a>, AllocError>
     ensures local { IfOk result (λ command. (out-Command command).has_globals ≡ false) }
 {
     let command = new_subcommand(alloc, "check", help::CHECK, help::AFTER_CHECK);
-    let command = with_arguments(alloc, command, &[ZONE, EVENT_ZONES, JSON])?;
+    let command = with_arguments(alloc, command, &[ZONE, EVENT_ZONES, DENY, ALLOW, JSON])?;
     with_sources(alloc, command)
 }
 

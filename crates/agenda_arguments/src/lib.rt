@@ -1,7 +1,8 @@
 //! The arguments of the command line: what they request, or the text of help or of a usage error.
 //!
 //! The crate uses the kit's `clap`, plan_texts for the texts that it keeps, plan_rules for the table of the kinds of
-//! sources, agenda_sources for their paths, and agenda_codes for the codes that can be explained. Read `arguments`
+//! sources, agenda_sources for their paths, agenda_codes for the codes that can be explained, and agenda_policy for
+//! the warnings that `check` denies or allows. Read `arguments`
 //! first, then `machine` for the arguments of `agenda machine`, and `command`, which describes both command lines to
 //! clap, with the texts in its `help`.
 #![tactic(auto)]
@@ -18,7 +19,8 @@ mod values;
 
 pub use arguments::read_words;
 pub use ask::{
-    Ask, FormatRequest, JobsRequest, MachineGoal, MachineJobs, MachineNext, MachineQuestion,
-    MachineRequest, NextRequest, PlanRequest, SpanRequest, TableRequest, UsageFault, ZonesRequest,
+    Ask, FormatRequest, JobsRequest, MachineCheck, MachineGoal, MachineJobs, MachineNext,
+    MachineQuestion, MachineRequest, NextRequest, PlanRequest, SpanRequest, TableRequest,
+    UsageFault, ZonesRequest,
 };
 pub use names::JobNames;

@@ -8,9 +8,10 @@ ghost use Rattle.agenda_arguments.specs.Arguments.{lacks_question, machine_forma
 
 use crate::arguments::{no_subcommand, sizes_of, usage_fault};
 use crate::ask::{
-    Ask, FormatRequest, MachineGoal, MachineJobs, MachineNext, MachineQuestion, MachineRequest,
-    SpanRequest, TableRequest, UsageFault,
+    Ask, FormatRequest, MachineCheck, MachineGoal, MachineJobs, MachineNext, MachineQuestion,
+    MachineRequest, SpanRequest, TableRequest, UsageFault,
 };
+use crate::codes::policy_of;
 use crate::command::machine_command;
 use crate::hint::{time_options, with_hint};
 use crate::names::names_of;
@@ -151,8 +152,10 @@ fn asked_by_machine_check(alloc: Global, given: &ArgMatches<'_>) -> Result<Ask, 
     ensures { Follows result (asked_by_machine_check (rows_of (found_of given.now))) }
 {
     let zone = machine_zone(alloc, given)?;
+    let policy = policy_of(alloc, given)?;
     let json = is_given(given, "json");
-    asked_of_machine(alloc, given, MachineQuestion::Check { zone, json })
+    let check = MachineCheck { zone, policy, json };
+    asked_of_machine(alloc, given, MachineQuestion::Check(check))
 }
 
 fn asked_by_machine_upcoming(alloc: Global, given: &ArgMatches<'_>) -> Result<Ask, UsageFault>

@@ -46,6 +46,10 @@ pub enum Code {
     BadZoneName,
     /// The command of a line ends with a carriage return.
     CarriageReturn,
+    /// Debian's cron reads this line otherwise.
+    CronDiffers,
+    /// Debian's cron ignores the whole file, so it starts none of its jobs.
+    CronIgnores,
     /// The timer starts up to the time of `RandomizedDelaySec=` later than planned.
     Delayed,
     /// A file can't be opened or read, or standard output can't be written.
@@ -56,6 +60,12 @@ pub enum Code {
     Fraction,
     /// There are more than 1,000 jobs.
     Full,
+    /// The line has a carriage return before its end, or a NUL byte, and systemd ends the line there.
+    LineEnd,
+    /// systemd 252 may stop for good at this event, in a zone with summer time.
+    MayStop,
+    /// Starts of the timer are closer to each other than its accuracy, so systemd may merge them into one.
+    Merged,
     /// The timer also starts by `OnBootSec=` or the like, which isn't planned.
     Monotonic,
     /// The rule of this line, or this event, has no start in any year.
@@ -72,6 +82,8 @@ pub enum Code {
     NoSuchZone,
     /// The file has no section `[Timer]`.
     NoTimerSection,
+    /// The user of the line can't be the name of a user.
+    NoUser,
     /// The messages of the planners didn't add up at the end, so nothing is printed.
     NotSettled,
     /// The bytes of the file aren't UTF-8.
@@ -82,6 +94,8 @@ pub enum Code {
     OutOfYears,
     /// The command has a `%` that doesn't follow a backslash, so cron ends the command there.
     Percent,
+    /// systemd 252 reads a range with a step after '~' from its first value on.
+    RangeFromEnd,
     /// Two jobs have the same name, because a file is given twice or because files of two directories have the
     /// same name.
     SameName,
@@ -89,6 +103,10 @@ pub enum Code {
     SkippedStarts,
     /// A calendar event has a `%`, and specifiers aren't expanded.
     Specifier,
+    /// systemd 252 rejects the event, so the timer doesn't start at it.
+    SystemdRejects,
+    /// systemd 252 rejects the whole timer, so it starts nothing.
+    TimerRejected,
     /// The file has more than 1,048,576 bytes.
     TooLarge,
     /// The span has more starts than the limit.
@@ -97,6 +115,8 @@ pub enum Code {
     TooManyLines,
     /// The script has more than 10,000 steps.
     TooManySteps,
+    /// systemd 252 ignores the value of 'Unit=', so the timer starts the service of its own name.
+    UnitIgnored,
     /// A setting in `[Timer]` isn't one of systemd.timer(5), so systemd ignores it.
     UnknownKey,
     /// There is no such word for a rule.
@@ -114,7 +134,7 @@ pub enum Code {
 impl Code {
     /// Returns all codes, in the order of their names.
     #[tactic(auto, unfolding(crate::specs::Codes::all_codes))]
-    pub fn all() -> [Code; 49]
+    pub fn all() -> [Code; 59]
         ensures { result ≡ all_codes }
     {
         [
@@ -136,11 +156,16 @@ impl Code {
             Code::BadZone,
             Code::BadZoneName,
             Code::CarriageReturn,
+            Code::CronDiffers,
+            Code::CronIgnores,
             Code::Delayed,
             Code::Device,
             Code::EitherDay,
             Code::Fraction,
             Code::Full,
+            Code::LineEnd,
+            Code::MayStop,
+            Code::Merged,
             Code::Monotonic,
             Code::NeverStarts,
             Code::NoCommand,
@@ -149,18 +174,23 @@ impl Code {
             Code::NoSuchDate,
             Code::NoSuchZone,
             Code::NoTimerSection,
+            Code::NoUser,
             Code::NotSettled,
             Code::NotUtf8,
             Code::OutOfRange,
             Code::OutOfYears,
             Code::Percent,
+            Code::RangeFromEnd,
             Code::SameName,
             Code::SkippedStarts,
             Code::Specifier,
+            Code::SystemdRejects,
+            Code::TimerRejected,
             Code::TooLarge,
             Code::TooMany,
             Code::TooManyLines,
             Code::TooManySteps,
+            Code::UnitIgnored,
             Code::UnknownKey,
             Code::UnknownWord,
             Code::WrongParts,
@@ -195,11 +225,16 @@ impl Code {
             Code::BadZone => "BadZone",
             Code::BadZoneName => "BadZoneName",
             Code::CarriageReturn => "CarriageReturn",
+            Code::CronDiffers => "CronDiffers",
+            Code::CronIgnores => "CronIgnores",
             Code::Delayed => "Delayed",
             Code::Device => "Device",
             Code::EitherDay => "EitherDay",
             Code::Fraction => "Fraction",
             Code::Full => "Full",
+            Code::LineEnd => "LineEnd",
+            Code::MayStop => "MayStop",
+            Code::Merged => "Merged",
             Code::Monotonic => "Monotonic",
             Code::NeverStarts => "NeverStarts",
             Code::NoCommand => "NoCommand",
@@ -208,18 +243,23 @@ impl Code {
             Code::NoSuchDate => "NoSuchDate",
             Code::NoSuchZone => "NoSuchZone",
             Code::NoTimerSection => "NoTimerSection",
+            Code::NoUser => "NoUser",
             Code::NotSettled => "NotSettled",
             Code::NotUtf8 => "NotUtf8",
             Code::OutOfRange => "OutOfRange",
             Code::OutOfYears => "OutOfYears",
             Code::Percent => "Percent",
+            Code::RangeFromEnd => "RangeFromEnd",
             Code::SameName => "SameName",
             Code::SkippedStarts => "SkippedStarts",
             Code::Specifier => "Specifier",
+            Code::SystemdRejects => "SystemdRejects",
+            Code::TimerRejected => "TimerRejected",
             Code::TooLarge => "TooLarge",
             Code::TooMany => "TooMany",
             Code::TooManyLines => "TooManyLines",
             Code::TooManySteps => "TooManySteps",
+            Code::UnitIgnored => "UnitIgnored",
             Code::UnknownKey => "UnknownKey",
             Code::UnknownWord => "UnknownWord",
             Code::WrongParts => "WrongParts",
@@ -230,18 +270,25 @@ impl Code {
     }
 
     /// Returns the code with this name, in upper or lower case, if there is one.
-    #[tactic(auto, unfolding(crate::specs::Codes::code_named))]
     pub fn named(name: &str) -> Option<Code>
+        ensures { result ≡ code_named name.now }
+    {
+        Code::of_bytes(name.as_bytes())
+    }
+
+    /// Returns the code whose name has these bytes, in upper or lower case, if there is one.
+    #[tactic(auto, unfolding(crate::specs::Codes::code_named))]
+    pub fn of_bytes(name: &[u8]) -> Option<Code>
         ensures { result ≡ code_named name.now }
     {
         first_named(&Code::all(), name)
     }
 
     // Returns whether this is the name of the code, in upper or lower case.
-    fn is_named(self, name: &str) -> bool
+    fn is_named(self, name: &[u8]) -> bool
         ensures { result ≡ str_eq_ignore_ascii_case (name_of self) name.now }
     {
-        is_same_name(self.name(), name)
+        is_same_name(self.name().as_bytes(), name)
     }
 
     // Returns what the code means, in one sentence.
@@ -267,11 +314,16 @@ impl Code {
             Code::BadZone => sentences::BAD_ZONE,
             Code::BadZoneName => sentences::BAD_ZONE_NAME,
             Code::CarriageReturn => sentences::CARRIAGE_RETURN,
+            Code::CronDiffers => sentences::CRON_DIFFERS,
+            Code::CronIgnores => sentences::CRON_IGNORES,
             Code::Delayed => sentences::DELAYED,
             Code::Device => sentences::DEVICE,
             Code::EitherDay => sentences::EITHER_DAY,
             Code::Fraction => sentences::FRACTION,
             Code::Full => sentences::FULL,
+            Code::LineEnd => sentences::LINE_END,
+            Code::MayStop => sentences::MAY_STOP,
+            Code::Merged => sentences::MERGED,
             Code::Monotonic => sentences::MONOTONIC,
             Code::NeverStarts => sentences::NEVER_STARTS,
             Code::NoCommand => sentences::NO_COMMAND,
@@ -280,18 +332,23 @@ impl Code {
             Code::NoSuchDate => sentences::NO_SUCH_DATE,
             Code::NoSuchZone => sentences::NO_SUCH_ZONE,
             Code::NoTimerSection => sentences::NO_TIMER_SECTION,
+            Code::NoUser => sentences::NO_USER,
             Code::NotSettled => sentences::NOT_SETTLED,
             Code::NotUtf8 => sentences::NOT_UTF8,
             Code::OutOfRange => sentences::OUT_OF_RANGE,
             Code::OutOfYears => sentences::OUT_OF_YEARS,
             Code::Percent => sentences::PERCENT,
+            Code::RangeFromEnd => sentences::RANGE_FROM_END,
             Code::SameName => sentences::SAME_NAME,
             Code::SkippedStarts => sentences::SKIPPED_STARTS,
             Code::Specifier => sentences::SPECIFIER,
+            Code::SystemdRejects => sentences::SYSTEMD_REJECTS,
+            Code::TimerRejected => sentences::TIMER_REJECTED,
             Code::TooLarge => sentences::TOO_LARGE,
             Code::TooMany => sentences::TOO_MANY,
             Code::TooManyLines => sentences::TOO_MANY_LINES,
             Code::TooManySteps => sentences::TOO_MANY_STEPS,
+            Code::UnitIgnored => sentences::UNIT_IGNORED,
             Code::UnknownKey => sentences::UNKNOWN_KEY,
             Code::UnknownWord => sentences::UNKNOWN_WORD,
             Code::WrongParts => sentences::WRONG_PARTS,
@@ -324,11 +381,16 @@ impl Code {
             Code::BadZone => requests::BAD_ZONE,
             Code::BadZoneName => requests::BAD_ZONE_NAME,
             Code::CarriageReturn => warnings::CARRIAGE_RETURN,
+            Code::CronDiffers => warnings::CRON_DIFFERS,
+            Code::CronIgnores => warnings::CRON_IGNORES,
             Code::Delayed => warnings::DELAYED,
             Code::Device => requests::DEVICE,
             Code::EitherDay => warnings::EITHER_DAY,
             Code::Fraction => rules::FRACTION,
             Code::Full => files::FULL,
+            Code::LineEnd => warnings::LINE_END,
+            Code::MayStop => warnings::MAY_STOP,
+            Code::Merged => warnings::MERGED,
             Code::Monotonic => warnings::MONOTONIC,
             Code::NeverStarts => warnings::NEVER_STARTS,
             Code::NoCommand => files::NO_COMMAND,
@@ -337,18 +399,23 @@ impl Code {
             Code::NoSuchDate => requests::NO_SUCH_DATE,
             Code::NoSuchZone => requests::NO_SUCH_ZONE,
             Code::NoTimerSection => files::NO_TIMER_SECTION,
+            Code::NoUser => warnings::NO_USER,
             Code::NotSettled => requests::NOT_SETTLED,
             Code::NotUtf8 => files::NOT_UTF8,
             Code::OutOfRange => rules::OUT_OF_RANGE,
             Code::OutOfYears => requests::OUT_OF_YEARS,
             Code::Percent => warnings::PERCENT,
+            Code::RangeFromEnd => warnings::RANGE_FROM_END,
             Code::SameName => files::SAME_NAME,
             Code::SkippedStarts => warnings::SKIPPED_STARTS,
             Code::Specifier => rules::SPECIFIER,
+            Code::SystemdRejects => warnings::SYSTEMD_REJECTS,
+            Code::TimerRejected => warnings::TIMER_REJECTED,
             Code::TooLarge => files::TOO_LARGE,
             Code::TooMany => requests::TOO_MANY,
             Code::TooManyLines => files::TOO_MANY_LINES,
             Code::TooManySteps => files::TOO_MANY_STEPS,
+            Code::UnitIgnored => warnings::UNIT_IGNORED,
             Code::UnknownKey => warnings::UNKNOWN_KEY,
             Code::UnknownWord => rules::UNKNOWN_WORD,
             Code::WrongParts => rules::WRONG_PARTS,
@@ -360,7 +427,7 @@ impl Code {
 }
 
 // Returns whether two names are the same but for upper and lower case.
-fn is_same_name(one: &str, other: &str) -> bool
+fn is_same_name(one: &[u8], other: &[u8]) -> bool
     ensures { result ≡ str_eq_ignore_ascii_case one.now other.now }
 {
     one.eq_ignore_ascii_case(other)
@@ -378,7 +445,7 @@ impl AsStr for Code {
 }
 
 // Returns the first of these codes that has this name, in upper or lower case.
-fn first_named(codes: &[Code], name: &str) -> Option<Code>
+fn first_named(codes: &[Code], name: &[u8]) -> Option<Code>
     ensures { result ≡ first_named name.now codes.now }
 {
     codes.iter().find(|code| code.is_named(name)).copied()

@@ -2,11 +2,12 @@
 //!
 //! The crate uses plan_streams, to which it writes what `agenda explain` prints. A line of an error or of a
 //! warning shows the name of a code; here each code has its explanation. Read `code` first, which has the
-//! tables, then `write`. The explanations are in the modules of `texts`.
+//! tables, then `write`. `warned` says which codes are those of warnings. The explanations are in the modules of `texts`.
 #![tactic(auto)]
 
 mod code;
 mod texts;
+mod warned;
 mod write;
 
 pub use code::Code;

@@ -1,6 +1,6 @@
 -- Which code the line of each error ends with. There is a lemma for each kind of line, by the cases of its error.
 -- A line is put together from the front, and its end is a name and a newline: a text before that changes nothing (`longer`).
-use Rattle.std.proofs.Common.{◌∙◌, ℕ, List, ◌++◌, Option, None, Some, ap, refl, sym, append_assoc, codes, true, false}
+use Rattle.std.proofs.Common.{◌≡◌, ◌∙◌, ℕ, List, ◌++◌, Option, None, Some, ap, refl, sym, append_assoc, codes, true, false}
 use Rattle.std.specs.Prelude.{decimal}
 use Rattle.plan_sets.specs.Causes.{moment_cause}
 use Rattle.plan_sets.specs.declared.MomentFault.{MomentFault}
@@ -32,6 +32,7 @@ use Rattle.plan_streams.specs.declared.WriteFault.TheVariants as stream
 use Rattle.agenda_codes.specs.declared.Code.{Code}
 use Rattle.agenda_codes.specs.declared.Code.TheVariants as code
 use Rattle.agenda_codes.specs.Codes.{name_of}
+use Rattle.agenda_codes.specs.Warned.{is_of_warning}
 use Rattle.agenda_faults.specs.FaultLines.{about_option, caused_line, fault_text, numbered_line, plan_line, rule_line, run_line, script_line, source_line, source_name, source_rule_line, text_of_line, text_of_part, zone_line}
 use Rattle.agenda_faults.specs.declared.faults.RunFault.{RunFault}
 use Rattle.agenda_faults.specs.declared.faults.RunFault.TheVariants as run
@@ -45,7 +46,7 @@ use Rattle.agenda_faults.specs.declared.machine_faults.NumberOption.TheVariants 
 use Rattle.agenda_faults.specs.declared.machine_faults.TimeOption.{TimeOption}
 use Rattle.plan_times.specs.declared.fault.TimeFault.{TimeFault}
 use Rattle.plan_times.specs.declared.fault.TimeFault.TheVariants as time
-use Rattle.agenda_commands.specs.CodeLaws.{ComesInPlan, ComesInRule, ComesInRun, ComesOnLine, EndsWithCode, HasCode, HasLine, ending}
+use Rattle.agenda_commands.specs.CodeLaws.{ComesInPlan, ComesInRule, ComesInRun, ComesOnLine, EndsWithCode, HasCode, HasLine, HasWarningCode, ending}
 
 -- ---- the names of causes
 
@@ -95,18 +96,31 @@ line_has line.NoTimerSection comes = has code.NoTimerSection
 line_has line.TooManyLines comes = has code.TooManyLines
 line_has line.BadTabName comes = has code.BadTabName
 
-pub warning_has : (warning : Warning) → HasCode (warning_name warning)
-warning_has warning.NeverStarts = has code.NeverStarts
-warning_has warning.EitherDay = has code.EitherDay
-warning_has warning.NoEvents = has code.NoEvents
-warning_has warning.Percent = has code.Percent
-warning_has warning.CarriageReturn = has code.CarriageReturn
-warning_has warning.ZoneSetting = has code.ZoneSetting
-warning_has warning.SkippedStarts = has code.SkippedStarts
-warning_has warning.UnknownKey = has code.UnknownKey
-warning_has warning.BadDelay = has code.BadDelay
-warning_has warning.Monotonic = has code.Monotonic
-warning_has warning.Delayed = has code.Delayed
+warns : (code : Code) → is_of_warning code ≡ true → HasWarningCode (name_of code)
+warns code of = record { code = code; is = refl; of_warning = of }
+
+pub warning_has : (warning : Warning) → HasWarningCode (warning_name warning)
+warning_has warning.NeverStarts = warns code.NeverStarts refl
+warning_has warning.EitherDay = warns code.EitherDay refl
+warning_has warning.NoEvents = warns code.NoEvents refl
+warning_has warning.Percent = warns code.Percent refl
+warning_has warning.CarriageReturn = warns code.CarriageReturn refl
+warning_has warning.ZoneSetting = warns code.ZoneSetting refl
+warning_has warning.SkippedStarts = warns code.SkippedStarts refl
+warning_has warning.UnknownKey = warns code.UnknownKey refl
+warning_has warning.BadDelay = warns code.BadDelay refl
+warning_has warning.Monotonic = warns code.Monotonic refl
+warning_has warning.Delayed = warns code.Delayed refl
+warning_has warning.SystemdRejects = warns code.SystemdRejects refl
+warning_has warning.RangeFromEnd = warns code.RangeFromEnd refl
+warning_has warning.MayStop = warns code.MayStop refl
+warning_has warning.Merged = warns code.Merged refl
+warning_has warning.CronIgnores = warns code.CronIgnores refl
+warning_has warning.CronDiffers = warns code.CronDiffers refl
+warning_has warning.NoUser = warns code.NoUser refl
+warning_has warning.TimerRejected = warns code.TimerRejected refl
+warning_has warning.UnitIgnored = warns code.UnitIgnored refl
+warning_has warning.LineEnd = warns code.LineEnd refl
 
 script_has : (cause : ScriptCause) → HasCode (script_cause cause)
 script_has script.NoMemory = has code.NoMemory

@@ -15,11 +15,18 @@ use Rattle.agenda_faults.specs.declared.faults.Failure.TheVariants as failure
 use Rattle.plan_streams.specs.declared.WriteFault.TheVariants as stream
 use Rattle.agenda_codes.specs.declared.Code.{Code}
 use Rattle.agenda_codes.specs.Codes.{name_of}
+use Rattle.agenda_codes.specs.Warned.{is_of_warning}
 
 -- the name is that of a code
 pub record HasCode (name : List ℕ) : Type 0 where
   pub code : Code
   pub is : name ≡ name_of code
+
+-- the same of a code of a warning
+pub record HasWarningCode (name : List ℕ) : Type 0 where
+  pub code : Code
+  pub is : name ≡ name_of code
+  pub of_warning : is_of_warning code ≡ true
 
 -- how a line ends: with the name of a code, which is in brackets if the line is in words
 abbrev pub ending : (is_in_words : Bool) → Code → List ℕ

@@ -7,7 +7,7 @@ use Rattle.std.specs.List.{slice_range}
 use Rattle.std.specs.Str.{IsCharBoundary}
 use Rattle.std.proofs.lemmas.Bool.{cases_lt}
 use Rattle.std.proofs.lemmas.Bool.Decides.{nat_tests}
-use Rattle.agenda_findings.specs.Messages.{shown}
+use Rattle.agenda_findings.specs.Quotes.{shown}
 
 starts : (b : ℕ) → (128 ≤ b → 192 ≤ b) → is_char_start b ≡ true
 starts b boundary = grind (arith, nat_tests, boundary)

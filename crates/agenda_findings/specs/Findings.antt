@@ -7,7 +7,7 @@ use Rattle.plan_rules.specs.declared.SourceKind.{SourceKind}
 use Rattle.agenda_sources.specs.declared.Found.{Found}
 use Rattle.agenda_sources.specs.declared.SourcePath.{SourcePath}
 use Rattle.plan_write.specs.Json.{json_string}
-use Rattle.agenda_findings.specs.Messages.{code_of, message, severity}
+use Rattle.agenda_findings.specs.Messages.{code_of, detail_in, message, severity}
 
 -- the number of a line, after its path; a finding about the whole file has none
 abbrev pub line_mark : ℕ → List ℕ
@@ -23,7 +23,7 @@ after_message kind = codes " [" ++ (code_of kind ++ codes "]\n")
 
 -- the message of a finding
 abbrev pub message_of : SourceKind → Finding → List ℕ
-message_of source finding = message source finding.kind (unwrap_or finding.quote [])
+message_of source finding = message source finding.kind (unwrap_or finding.quote []) ++ detail_in finding.kind finding.detail
 
 -- the line of a finding in a source of a kind
 abbrev pub finding_line : (path : List ℕ) → SourceKind → Finding → List ℕ

@@ -1,9 +1,6 @@
 -- The messages of findings, in words. They are our choice (agenda).
-use Rattle.std.specs.Prelude.{ℕ, ◌/◌, ◌%◌, ◌||◌, ◌==◌, nat_le, nat_lt, if◌then◌else◌, List, [], ◌∷◌, ◌++◌, length, take, codes}
-use Rattle.std.specs.Char.{digit_char}
-use Rattle.std.specs.Fmt.Cut.{floor_char_boundary}
+use Rattle.std.specs.Prelude.{ℕ, ◌==◌, if◌then◌else◌, List, [], ◌++◌, codes, Option, Some, None}
 use Rattle.std.specs.List.{flat_map}
-use Rattle.std.specs.Str.{byte}
 use Rattle.plan_sets.specs.declared.SetFault.TheVariants as set
 use Rattle.plan_grammar.specs.declared.RuleCause.{RuleCause}
 use Rattle.plan_grammar.specs.declared.RuleCause.TheVariants as rule
@@ -14,38 +11,10 @@ use Rattle.plan_rules.specs.declared.LineCause.TheVariants as line
 use Rattle.plan_rules.specs.declared.SourceKind.{SourceKind}
 use Rattle.plan_rules.specs.declared.SourceKind.TheVariants.{System, CronD, Timer}
 use Rattle.plan_check.specs.Finding.{warning_name}
-use Rattle.plan_check.specs.declared.Warning.{Warning}
-use Rattle.plan_check.specs.declared.Warning.TheVariants as warning
 use Rattle.plan_check.specs.declared.FindingKind.{FindingKind}
-use Rattle.plan_check.specs.declared.FindingKind.TheVariants.{Rejected, SameName, Full, Warned}
-
--- ---- quoted text
-
--- the maximum number of bytes of a text that are shown
-abbrev pub most_shown : ℕ
-most_shown = 64
-
--- the first characters of a text that fit into 64 bytes
-unfoldable pub shown : List ℕ → List ℕ
-shown text = if nat_le (length text) most_shown then text else take (floor_char_boundary text most_shown) text
-
--- a byte in quotes: a control character by its number in two hexadecimal digits, a backslash twice, and any other byte as it is
-abbrev pub escaped : ℕ → List ℕ
-escaped b =
-    if b == byte "\\" then codes "\\\\"
-    else (if nat_lt b 32 || (b == 127) then codes "\\x" ++ (digit_char (b / 16) ∷ digit_char (b % 16) ∷ []) else b ∷ [])
-
--- what follows the closing quote of a text of which not all is shown
-unfoldable pub dots : List ℕ → List ℕ
-dots text = if nat_le (length text) most_shown then [] else codes "..."
-
--- a text in quotes
-unfoldable pub quoted : List ℕ → List ℕ
-quoted text = codes "'" ++ (flat_map escaped (shown text) ++ (codes "'" ++ dots text))
-
--- a text in quotes, with what comes before and after it
-unfoldable pub around : (before text after : List ℕ) → List ℕ
-around before text after = before ++ (quoted text ++ after)
+use Rattle.plan_check.specs.declared.FindingKind.TheVariants.{Rejected, SameName, Full, Warned, Denied}
+use Rattle.agenda_findings.specs.Quotes.{around, escaped, quoted}
+use Rattle.agenda_findings.specs.Warnings.{warning_message}
 
 -- ---- errors of rules
 
@@ -185,41 +154,6 @@ line_message source other quote = plain_message source other
 
 -- ---- all findings
 
--- a warning that quotes nothing
-unfoldable pub plain_warning : Warning → List ℕ
-plain_warning warning.NeverStarts = codes "never starts"
-plain_warning warning.EitherDay = codes "starts on days that match either day field, not both"
-plain_warning warning.NoEvents = codes "no OnCalendar= event, so no start is planned"
-plain_warning warning.Percent = codes "cron ends the command at the first % and passes the rest as input"
-plain_warning warning.CarriageReturn = codes "the command ends with a carriage return"
-plain_warning warning.ZoneSetting = codes "CRON_TZ is read by cronie alone; agenda reads all rules in one zone"
-plain_warning warning.Monotonic = codes "also starts by OnBootSec= or the like, which is not planned"
-plain_warning other = []
-
--- starts of an event may be passed over
-abbrev pub skipped_starts : (event : List ℕ) → List ℕ
-skipped_starts event = around (codes "systemd 252 may pass over starts of ") event (codes ": give the step an end")
-
--- a key is unknown
-abbrev pub unknown_key : (key : List ℕ) → List ℕ
-unknown_key key = around (codes "unknown setting ") key (codes " in [Timer]")
-
--- the value of a delay isn't a time span
-abbrev pub bad_delay : (value : List ℕ) → List ℕ
-bad_delay value = around [] value (codes " is not a time span")
-
--- a timer has a random delay
-abbrev pub delayed : (delay : List ℕ) → List ℕ
-delayed delay = around (codes "starts up to ") delay (codes " later than planned (RandomizedDelaySec=)")
-
--- a warning
-abbrev pub warning_message : Warning → (quote : List ℕ) → List ℕ
-warning_message warning.SkippedStarts quote = skipped_starts quote
-warning_message warning.UnknownKey quote = unknown_key quote
-warning_message warning.BadDelay quote = bad_delay quote
-warning_message warning.Delayed quote = delayed quote
-warning_message other quote = plain_warning other
-
 -- another job has the name of a job
 abbrev pub same_name : (name : List ℕ) → List ℕ
 same_name name = around (codes "another job is named ") name []
@@ -228,12 +162,24 @@ same_name name = around (codes "another job is named ") name []
 abbrev pub full_message : List ℕ
 full_message = codes "more than 1000 jobs"
 
--- a finding in a source of a kind
+-- a finding in a source of a kind, before what it ends with
 abbrev pub message : SourceKind → FindingKind → (quote : List ℕ) → List ℕ
 message source (Rejected cause) quote = line_message source cause quote
 message source SameName quote = same_name quote
 message source Full quote = full_message
 message source (Warned warning) quote = warning_message warning quote
+message source (Denied warning) quote = warning_message warning quote
+
+-- a text in brackets, after a blank
+abbrev pub in_brackets : List ℕ → List ℕ
+in_brackets text = codes " (" ++ (flat_map escaped text ++ codes ")")
+
+-- what a message ends with: of an error in brackets, of a warning as it is
+abbrev pub detail_in : FindingKind → Option (List ℕ) → List ℕ
+detail_in kind None = []
+detail_in (Warned warning) (Some detail) = flat_map escaped detail
+detail_in (Denied warning) (Some detail) = flat_map escaped detail
+detail_in other (Some detail) = in_brackets detail
 
 -- what was rejected is an error
 abbrev pub severity : FindingKind → List ℕ
@@ -246,3 +192,4 @@ code_of (Rejected cause) = line_cause cause
 code_of SameName = codes "SameName"
 code_of Full = codes "Full"
 code_of (Warned warning) = warning_name warning
+code_of (Denied warning) = warning_name warning

@@ -2,7 +2,7 @@
 use Rattle.std.specs.Prelude.{ℕ, List, ◌++◌, codes}
 use Rattle.plan_grammar.specs.declared.RuleFault.{RuleFault}
 use Rattle.plan_rules.specs.declared.LineCause.TheVariants as line
-use Rattle.plan_check.specs.Crontabs.{word_at}
+use Rattle.plan_cron.specs.Words.{word_at}
 use Rattle.plan_check.specs.declared.FindingKind.TheVariants.{Rejected}
 use Rattle.agenda_sources.specs.declared.Asked.{Asked}
 use Rattle.agenda_sources.specs.declared.Asked.TheVariants.{Cron, Event}

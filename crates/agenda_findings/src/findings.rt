@@ -3,9 +3,10 @@
 ghost use Rattle.std.specs.Prelude.{◌≡◌, [], IsTrue, OnOk, slice_get, unwrap_or};
 ghost use Rattle.plan_streams.specs.Stream.{Puts};
 ghost use Rattle.plan_streams.specs.Writer.{Takes};
-ghost use Rattle.agenda_findings.specs.Findings.{after_message, before_message, check_text, finding_in, finding_line, finding_object, found_line, line_mark, line_value, members_before, kind_members};
+ghost use Rattle.plan_write.specs.Json.{text_in};
+ghost use Rattle.agenda_findings.specs.Findings.{after_message, before_message, check_text, finding_in, finding_line, finding_object, found_line, line_mark, line_value, members_before, message_of, kind_members};
 
-use crate::messages::{code_of, put_message, severity};
+use crate::messages::{code_of, put_detail, put_message, severity};
 use agenda_sources::{Found, SourcePath};
 use itoa::Buffer as Digits;
 use plan_check::{Finding, FindingKind};
@@ -94,7 +95,7 @@ fn put_finding_line<S: Stream>(
     ensures { Takes S.holds S.takes_all lines.old lines.new (finding_line path.now source finding.now) }
 {
     put_before_message(path, finding, lines);
-    put_message(source, finding.kind, quote_of(finding), false, lines);
+    put_message_of(source, finding, false, lines);
     put_after_message(finding.kind, lines);
 }
 
@@ -109,8 +110,22 @@ fn put_finding_object<S: Stream>(
 {
     put_members_before(path, finding, lines);
     lines.put(b",\"text\":\"");
-    put_message(source, finding.kind, quote_of(finding), true, lines);
+    put_message_of(source, finding, true, lines);
     lines.put(b"\"}\n");
+}
+
+// Puts the message of a finding in a source of a kind.
+#[tactic(auto, using(crate::proofs::TextLemmas::text_in_both))]
+fn put_message_of<S: Stream>(
+    source: SourceKind,
+    finding: &Finding,
+    json: bool,
+    lines: &mut TextWriter<'_, S>,
+)
+    ensures { Takes S.holds S.takes_all lines.old lines.new (text_in json (message_of source finding.now)) }
+{
+    put_message(source, finding.kind, quote_of(finding), json, lines);
+    put_detail(finding.kind, &finding.detail, json, lines);
 }
 
 // Puts what comes before the message in an object.

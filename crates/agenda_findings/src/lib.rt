@@ -2,13 +2,16 @@
 //! and the error of a rule that is given by itself.
 //!
 //! The findings come from agenda_sources. Each is a line of text, or an object in JSON, whose strings are those of
-//! plan_write. Read `findings` first, then `messages`.
+//! plan_write. Read `findings` first, then `messages` and
+//! `warnings`.
 #![tactic(auto)]
 
 mod findings;
 mod messages;
+mod quotes;
 mod rules;
 mod skipped;
+mod warnings;
 
 pub use findings::write_findings;
 pub use rules::rule_fault_line;

@@ -1,20 +1,20 @@
 //! The messages of findings, in words.
 
 ghost use Rattle.std.specs.Prelude.{◌≡◌};
-ghost use Rattle.std.specs.List.{flat_map};
+ghost use Rattle.std.specs.Option.{option_map};
 ghost use Rattle.plan_streams.specs.Writer.{Takes};
 ghost use Rattle.plan_write.specs.Json.{text_in};
-ghost use Rattle.agenda_findings.specs.Messages.{around, bad_delay, code_of, cron_message, delayed, dots, escaped, event_message, expected_fields, field_message, field_name, field_values, full_message, message, missing_command, no_event, part_message, part_name, part_values, plain_message, plain_warning, problem, problem_after, problem_text, quoted, range_of, rule_message, same_name, severity, shown, skipped_starts, unknown_key, unknown_word, warning_message, whole_event, whole_rule, with_specifiers};
+ghost use Rattle.agenda_findings.specs.Messages.{code_of, cron_message, detail_in, event_message, expected_fields, field_message, field_name, field_values, full_message, in_brackets, message, missing_command, no_event, part_message, part_name, part_values, plain_message, problem, problem_after, problem_text, range_of, rule_message, same_name, severity, unknown_word, whole_event, whole_rule, with_specifiers};
 
-use plan_check::{FindingKind, Warning};
+use crate::quotes::{put_around, put_escaped, put_quoted};
+use crate::warnings::put_warning;
+use plan_check::FindingKind;
 use plan_grammar::{RuleCause, RuleFault};
 use plan_rules::{LineCause, SourceKind};
 use plan_sets::SetFault;
 use plan_streams::{Stream, TextWriter};
-use plan_write::{hex_digit, put_text};
-
-/// The maximum number of bytes of a quoted text that are shown.
-const MOST_SHOWN: usize = 64;
+use plan_texts::Text;
+use plan_write::put_text;
 
 // Returns whether a finding is an error or a warning.
 pub(crate) fn severity(kind: FindingKind) -> &'static str
@@ -22,7 +22,10 @@ pub(crate) fn severity(kind: FindingKind) -> &'static str
 {
     match kind {
         FindingKind::Warned(_) => "warning",
-        FindingKind::Rejected(_) | FindingKind::SameName | FindingKind::Full => "error",
+        FindingKind::Rejected(_)
+        | FindingKind::SameName
+        | FindingKind::Full
+        | FindingKind::Denied(_) => "error",
     }
 }
 
@@ -34,7 +37,7 @@ pub(crate) fn code_of(kind: FindingKind) -> &'static str
         FindingKind::Rejected(cause) => cause.name(),
         FindingKind::SameName => "SameName",
         FindingKind::Full => "Full",
-        FindingKind::Warned(warning) => warning.name(),
+        FindingKind::Warned(warning) | FindingKind::Denied(warning) => warning.name(),
     }
 }
 
@@ -59,8 +62,42 @@ pub(crate) fn put_message<S: Stream>(
         ),
         FindingKind::SameName => put_same_name(quote, json, lines),
         FindingKind::Full => put_text(json, full_message().as_bytes(), lines),
-        FindingKind::Warned(warning) => put_warning(warning, quote, json, lines),
+        FindingKind::Warned(warning) | FindingKind::Denied(warning) => {
+            put_warning(warning, quote, json, lines)
+        }
     }
+}
+
+// Puts what the message of a finding ends with, if it ends with something.
+#[tactic(auto, using(crate::proofs::TextLemmas::text_in_both))]
+pub(crate) fn put_detail<S: Stream>(
+    kind: FindingKind,
+    detail: &Option<Text>,
+    json: bool,
+    lines: &mut TextWriter<'_, S>,
+)
+    ensures { Takes S.holds S.takes_all lines.old lines.new (text_in json (detail_in kind detail.now)) }
+{
+    let Some(detail) = detail else {
+        return;
+    };
+    match kind {
+        FindingKind::Warned(_) | FindingKind::Denied(_) => put_escaped(
+            detail.as_str().as_bytes(),
+            json,
+            lines,
+        ),
+        _ => put_in_brackets(detail.as_str(), json, lines),
+    }
+}
+
+// Puts a text in brackets, after a blank.
+fn put_in_brackets<S: Stream>(text: &str, json: bool, lines: &mut TextWriter<'_, S>)
+    ensures { Takes S.holds S.takes_all lines.old lines.new (text_in json (in_brackets text.now)) }
+{
+    put_text(json, b" (", lines);
+    put_escaped(text.as_bytes(), json, lines);
+    put_text(json, b")", lines);
 }
 
 // Puts that another job has a name.
@@ -75,77 +112,6 @@ fn full_message() -> &'static str
     ensures { result.now ≡ full_message }
 {
     "more than 1000 jobs"
-}
-
-// Puts the message of a warning.
-fn put_warning<S: Stream>(warning: Warning, quote: &str, json: bool, lines: &mut TextWriter<'_, S>)
-    ensures { Takes S.holds S.takes_all lines.old lines.new (text_in json (warning_message warning quote.now)) }
-{
-    match warning {
-        Warning::SkippedStarts => put_skipped_starts(quote, json, lines),
-        Warning::UnknownKey => put_unknown_key(quote, json, lines),
-        Warning::BadDelay => put_bad_delay(quote, json, lines),
-        Warning::Delayed => put_delayed(quote, json, lines),
-        _ => put_text(json, plain_warning(warning).as_bytes(), lines),
-    }
-}
-
-// Returns the message of a warning that quotes nothing.
-#[tactic(auto, unfolding(crate::specs::Messages::plain_warning))]
-fn plain_warning(warning: Warning) -> &'static str
-    ensures { result.now ≡ plain_warning warning }
-{
-    match warning {
-        Warning::NeverStarts => "never starts",
-        Warning::EitherDay => "starts on days that match either day field, not both",
-        Warning::NoEvents => "no OnCalendar= event, so no start is planned",
-        Warning::Percent => "cron ends the command at the first % and passes the rest as input",
-        Warning::CarriageReturn => "the command ends with a carriage return",
-        Warning::ZoneSetting =>
-            "CRON_TZ is read by cronie alone; agenda reads all rules in one zone",
-        Warning::Monotonic => "also starts by OnBootSec= or the like, which is not planned",
-        Warning::SkippedStarts | Warning::UnknownKey | Warning::BadDelay | Warning::Delayed => "",
-    }
-}
-
-// Puts that starts of an event may be passed over.
-fn put_skipped_starts<S: Stream>(event: &str, json: bool, lines: &mut TextWriter<'_, S>)
-    ensures { Takes S.holds S.takes_all lines.old lines.new (text_in json (skipped_starts event.now)) }
-{
-    put_around(
-        "systemd 252 may pass over starts of ",
-        event,
-        ": give the step an end",
-        json,
-        lines,
-    );
-}
-
-// Puts that a key is unknown.
-fn put_unknown_key<S: Stream>(key: &str, json: bool, lines: &mut TextWriter<'_, S>)
-    ensures { Takes S.holds S.takes_all lines.old lines.new (text_in json (unknown_key key.now)) }
-{
-    put_around("unknown setting ", key, " in [Timer]", json, lines);
-}
-
-// Puts that the value of a delay isn't a time span.
-fn put_bad_delay<S: Stream>(value: &str, json: bool, lines: &mut TextWriter<'_, S>)
-    ensures { Takes S.holds S.takes_all lines.old lines.new (text_in json (bad_delay value.now)) }
-{
-    put_around("", value, " is not a time span", json, lines);
-}
-
-// Puts that a timer has a random delay.
-fn put_delayed<S: Stream>(delay: &str, json: bool, lines: &mut TextWriter<'_, S>)
-    ensures { Takes S.holds S.takes_all lines.old lines.new (text_in json (delayed delay.now)) }
-{
-    put_around(
-        "starts up to ",
-        delay,
-        " later than planned (RandomizedDelaySec=)",
-        json,
-        lines,
-    );
 }
 
 // Returns the message of the error of a line, or of a whole file, that isn't the error of a rule.
@@ -440,75 +406,5 @@ fn range_of<'a>(cause: RuleCause, values: &'a str) -> &'a str
     match cause {
         RuleCause::Values(SetFault::OutOfRange) => values,
         _ => "",
-    }
-}
-
-// ---- quoted text
-
-// Puts a text in quotes, with what comes before and after it.
-#[tactic(auto, using(crate::proofs::TextLemmas::text_in_both), unfolding(crate::specs::Messages::around))]
-fn put_around<S: Stream>(
-    before: &str,
-    text: &str,
-    after: &str,
-    json: bool,
-    lines: &mut TextWriter<'_, S>,
-)
-    ensures { Takes S.holds S.takes_all lines.old lines.new (text_in json (around before.now text.now after.now)) }
-{
-    put_text(json, before.as_bytes(), lines);
-    put_quoted(text, json, lines);
-    put_text(json, after.as_bytes(), lines);
-}
-
-// Puts a text in quotes.
-fn put_quoted<S: Stream>(text: &str, json: bool, lines: &mut TextWriter<'_, S>)
-    ensures { Takes S.holds S.takes_all lines.old lines.new (text_in json (quoted text.now)) }
-{
-    put_text(json, b"'", lines);
-    put_escaped(shown(text).as_bytes(), json, lines);
-    put_text(json, b"'", lines);
-    put_text(json, dots(text).as_bytes(), lines);
-}
-
-// Returns the first characters of a text that fit into 64 bytes.
-fn shown(text: &str) -> &str
-    ensures { result.now ≡ shown text.now }
-{
-    if text.len() <= MOST_SHOWN {
-        return text;
-    }
-    &text[..text.floor_char_boundary(MOST_SHOWN)]
-}
-
-// Returns what follows the closing quote of a text of which not all is shown.
-#[tactic(auto, unfolding(crate::specs::Messages::dots))]
-fn dots(text: &str) -> &'static str
-    ensures { result.now ≡ dots text.now }
-{
-    if text.len() <= MOST_SHOWN { "" } else { "..." }
-}
-
-// Puts the bytes of a text in quotes.
-fn put_escaped<S: Stream>(text: &[u8], json: bool, lines: &mut TextWriter<'_, S>)
-    ensures { Takes S.holds S.takes_all lines.old lines.new (text_in json (flat_map escaped text.now)) }
-{
-    for byte in text {
-        put_escaped_byte(*byte, json, lines);
-    }
-}
-
-// Puts a byte of a text in quotes.
-#[tactic(auto, using(crate::proofs::TextLemmas::text_in_both))]
-fn put_escaped_byte<S: Stream>(byte: u8, json: bool, lines: &mut TextWriter<'_, S>)
-    ensures { Takes S.holds S.takes_all lines.old lines.new (text_in json (escaped byte)) }
-{
-    if byte == b'\\' {
-        put_text(json, b"\\\\", lines);
-    } else if byte < 32 || byte == 127 {
-        put_text(json, b"\\x", lines);
-        put_text(json, &[hex_digit(byte / 16), hex_digit(byte % 16)], lines);
-    } else {
-        put_text(json, &[byte], lines);
     }
 }

@@ -1,3 +1,4 @@
+pub mod LoadedLemmas
 pub mod JobFileLaws
 pub mod JobFileLemmas
 pub mod LineLemmas

@@ -6,7 +6,7 @@ use Rattle.plan_check.specs.Timers.{is_only_monotonic}
 use Rattle.plan_machine.specs.Source.{SourceParts}
 use Rattle.plan_machine.specs.declared.NotPlanned.{NotPlanned}
 use Rattle.plan_machine.specs.declared.Unplanned.{Unplanned}
-use Rattle.plan_machine.specs.declared.Unplanned.TheVariants.{Anacron, Monotonic, AtJobs, UserTimers, UnitMissing, UnitMasked}
+use Rattle.plan_machine.specs.declared.Unplanned.TheVariants.{Anacron, Monotonic, AtJobs, UserTimers, UnitMissing, UnitMasked, UnitIdle, NotLoaded, LineNotLoaded}
 use Rattle.plan_parts.specs.Files.{FileBytes}
 use Rattle.plan_parts.specs.Parts.{files_of, text_of}
 use Rattle.plan_rules.specs.TimerEntries.{timer_lines}
@@ -45,14 +45,17 @@ monotonic_timers timers (source ∷ more) = monotonic_timers (after_source timer
 
 -- ---- among what isn't planned
 
--- what comes before them: the table of anacron, and timers whose unit can't start (agenda)
+-- what comes before them: the table of anacron, crontabs that cron ignores, and timers whose unit can't start (agenda)
 abbrev pub is_first : Unplanned → Bool
 is_first Anacron = true
 is_first (UnitMissing unit) = true
 is_first (UnitMasked unit) = true
+is_first (UnitIdle unit) = true
 is_first Monotonic = false
 is_first AtJobs = false
 is_first UserTimers = false
+is_first (NotLoaded why) = true
+is_first (LineNotLoaded line why) = true
 
 abbrev pub comes_before : NotPlanned → Bool
 comes_before one = is_first one.why

@@ -1,8 +1,11 @@
 -- The text of what is skipped and what isn't planned on a machine (agenda).
 use Rattle.std.specs.Prelude.{ℕ, ◌==◌, Bool, true, false, not, ◌||◌, if◌then◌else◌, List, [], ◌++◌, length, codes}
+use Rattle.std.specs.Fmt.{decimal}
 use Rattle.std.specs.List.{flat_map, list_any}
 use Rattle.plan_machine.specs.declared.NotPlanned.{NotPlanned}
 use Rattle.plan_machine.specs.declared.Skipped.{Skipped}
+use Rattle.plan_machine.specs.declared.Unplanned.{Unplanned}
+use Rattle.plan_machine.specs.declared.Unplanned.TheVariants.{LineNotLoaded}
 use Rattle.plan_machine.specs.declared.Why.{Why}
 use Rattle.plan_machine.specs.declared.Why.TheVariants.{NotReadable, NotUtf8}
 use Rattle.plan_timers.specs.Reports.{unplanned_text, why_text}
@@ -17,10 +20,19 @@ unfoldable pub skipped_line : (root : List ℕ) → Skipped → List ℕ
 skipped_line root one =
     codes "agenda: skipped " ++ (shown (below root one.path) ++ (codes ": " ++ (shown (why_text one.why) ++ codes "\n")))
 
+-- the number of a line that isn't planned
+abbrev pub line_mark : Unplanned → List ℕ
+line_mark (LineNotLoaded line why) = codes ":" ++ decimal line
+line_mark other = []
+
+-- the path of something that isn't planned, and its line
+abbrev pub place_of : (root : List ℕ) → NotPlanned → List ℕ
+place_of root one = shown (below root one.path) ++ line_mark one.why
+
 -- the line of something that isn't planned
 unfoldable pub unplanned_line : (root : List ℕ) → NotPlanned → List ℕ
 unplanned_line root one =
-    codes "agenda: not planned: " ++ (shown (below root one.path) ++ (codes ": " ++ (shown (unplanned_text one.why) ++ codes "\n")))
+    codes "agenda: not planned: " ++ (place_of root one ++ (codes ": " ++ (shown (unplanned_text one.why) ++ codes "\n")))
 
 -- the line that there is no cron daemon
 abbrev pub no_daemon : (is_lacking : Bool) → (dir : List ℕ) → List ℕ

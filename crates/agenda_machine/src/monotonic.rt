@@ -12,7 +12,8 @@ use plan_texts::Text;
 use std::alloc::{AllocError, Global};
 
 /// Returns what is found on a machine, with the timers that have a monotonic setting and no event among what isn't planned:
-/// they come after the table of anacron and the timers whose unit can't start. Each file is reported once.
+/// they come after the table of anacron, the crontabs that cron ignores and the timers whose unit can't
+/// start. Each file is reported once.
 ///
 /// # Errors
 ///
@@ -26,6 +27,7 @@ pub fn with_monotonic(alloc: Global, machine: Machine) -> Result<Machine, AllocE
         skipped,
         unplanned,
         lacks_cron_daemon,
+        cron_daemon,
     } = machine;
     let unplanned = with_timers(alloc, unplanned, sources.as_slice())?;
     Ok(Machine {
@@ -33,6 +35,7 @@ pub fn with_monotonic(alloc: Global, machine: Machine) -> Result<Machine, AllocE
         skipped,
         unplanned,
         lacks_cron_daemon,
+        cron_daemon,
     })
 }
 
@@ -77,7 +80,12 @@ fn comes_before(one: &NotPlanned) -> bool
     ensures { result ≡ comes_before one.now }
 {
     match &one.why {
-        Unplanned::Anacron | Unplanned::UnitMissing(_) | Unplanned::UnitMasked(_) => true,
+        Unplanned::Anacron
+        | Unplanned::UnitMissing(_)
+        | Unplanned::UnitMasked(_)
+        | Unplanned::UnitIdle(_)
+        | Unplanned::NotLoaded(_)
+        | Unplanned::LineNotLoaded(..) => true,
         Unplanned::Monotonic | Unplanned::AtJobs | Unplanned::UserTimers => false,
     }
 }

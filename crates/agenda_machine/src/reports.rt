@@ -4,12 +4,13 @@ ghost use Rattle.std.specs.Prelude.{◌≡◌, ◌++◌, false, IsTrue, Ok, OnOk
 ghost use Rattle.std.specs.List.{flat_map, list_any};
 ghost use Rattle.plan_streams.specs.Stream.{Puts};
 ghost use Rattle.plan_streams.specs.Writer.{Takes};
-ghost use Rattle.agenda_machine.specs.Reports.{has_line, is_incomplete, is_unreadable, no_daemon, no_zone, reports_text, skipped_line, unplanned_line};
+ghost use Rattle.agenda_machine.specs.Reports.{has_line, is_incomplete, is_unreadable, line_mark, no_daemon, no_zone, place_of, reports_text, skipped_line, unplanned_line};
 ghost use Rattle.plan_timers.specs.Reports.{unplanned_text, why_text};
 ghost use Rattle.plan_write.specs.Shown.{shown};
 ghost use Rattle.agenda_machine.specs.Paths.{below};
 
 use crate::paths::put_path;
+use itoa::Buffer as Digits;
 use plan_machine::{NotPlanned, Skipped, Unplanned, Why};
 use plan_streams::{Stream, TextWriter, WriteFault};
 use plan_texts::Text;
@@ -35,7 +36,7 @@ pub struct Reports<'a> {
 /// Writes what is reported of a machine: a line for each thing that is skipped, then one for each that isn't planned,
 /// then that there is no cron daemon, and then that the zone is unknown.
 ///
-/// The lines are `agenda: skipped PATH: WHY`, `agenda: not planned: PATH: WHY`,
+/// The lines are `agenda: skipped PATH: WHY`, `agenda: not planned: PATH: WHY` or `agenda: not planned: PATH:LINE: WHY`,
 /// `agenda: no cron daemon below DIR: crontabs start nothing` and
 /// `agenda: the zone of DIR is unknown: rules are read as UTC`. Control characters in a path, a directory or the name of
 /// a unit are written as `\xNN` for each of their bytes, and a backslash as `\\`.
@@ -154,10 +155,27 @@ fn put_unplanned<S: Stream>(root: &str, one: &NotPlanned, lines: &mut TextWriter
     ensures { Takes S.holds S.takes_all lines.old lines.new (unplanned_line root.now one.now) }
 {
     lines.put(b"agenda: not planned: ");
-    put_path_of(root, &one.path, lines);
+    put_place_of(root, one, lines);
     lines.put(b": ");
     put_why_unplanned(&one.why, lines);
     lines.put(b"\n");
+}
+
+// Puts the path of something that isn't planned, and its line if it is one line.
+fn put_place_of<S: Stream>(root: &str, one: &NotPlanned, lines: &mut TextWriter<'_, S>)
+    ensures { Takes S.holds S.takes_all lines.old lines.new (place_of root.now one.now) }
+{
+    put_path_of(root, &one.path, lines);
+    put_line_mark(&one.why, lines);
+}
+
+// Puts the number of the line that isn't planned, if it is one line.
+fn put_line_mark<S: Stream>(why: &Unplanned, lines: &mut TextWriter<'_, S>)
+    ensures { Takes S.holds S.takes_all lines.old lines.new (line_mark why.now) }
+{
+    if let Unplanned::LineNotLoaded(line, _) = why {
+        lines.put_both(b":", Digits::new().format(*line).as_bytes());
+    }
 }
 
 // Puts why something isn't planned.
@@ -176,7 +194,22 @@ fn put_why_unplanned<S: Stream>(why: &Unplanned, lines: &mut TextWriter<'_, S>)
             lines,
         ),
         Unplanned::UnitMasked(unit) => put_around("its unit ", unit.as_str(), " is masked", lines),
+        Unplanned::UnitIdle(unit) => put_around(
+            "its unit ",
+            unit.as_str(),
+            " has no ExecStart=",
+            lines,
+        ),
+        Unplanned::NotLoaded(why) => put_text(why, lines),
+        Unplanned::LineNotLoaded(_, why) => put_text(why, lines),
     }
+}
+
+// Puts a text as people are shown it.
+fn put_text<S: Stream>(text: &Text, lines: &mut TextWriter<'_, S>)
+    ensures { Takes S.holds S.takes_all lines.old lines.new (shown text.now) }
+{
+    put_shown(text.as_str(), lines);
 }
 
 // Puts that there is no cron daemon, if that is so.

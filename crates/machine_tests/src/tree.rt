@@ -1,7 +1,7 @@
 //! A tree of files that is a text, with a line for each path.
 
 use plan_texts::Text;
-use plan_tree::{Complete, Listing, Name, Node, Tree};
+use plan_tree::{Complete, Listing, Name, Node, Status, Tree};
 use std::alloc::{AllocError, Global};
 
 /// A tree that is a text. A line is a letter, a path and, after a blank, what is there: `d PATH` is a directory;
@@ -60,6 +60,10 @@ impl Tree for TextTree<'_> {
         }
         let is_whole = letter == "d";
         Ok(Some(Listing { names, is_whole }))
+    }
+
+    fn status(&self, _alloc: Global, _path: &str) -> Result<Option<Status>, AllocError> {
+        Ok(None)
     }
 
     fn front(&self, alloc: Global, path: &str, most: u64) -> Result<Option<Vec<u8>>, AllocError> {

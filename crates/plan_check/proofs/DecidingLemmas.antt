@@ -1,7 +1,7 @@
 -- A file means its reading, with its jobs added in order: for `a_file_means_its_reading`.
 -- Both sides go by the entries of the lines: rejected entries are the early errors (`early_lines`, `events_rejected`), and
 -- each valid entry of a crontab is a job that is added or not (`job_means`).
-use Rattle.std.proofs.Common.{◌≡◌, ℕ, zero, suc, ◌+◌, Bool, true, false, not, ◌&&◌, nat_lt, cond, List, [], ◌∷◌, ◌++◌, length, map, Option, Some, None, is_none, is_some, option_map, Result, Ok, Err, IfErr, refl, ap, sym, ◌∙◌, subst, arith}
+use Rattle.std.proofs.Common.{append-nil, ◌≡◌, ℕ, zero, suc, ◌+◌, Bool, true, false, not, ◌&&◌, nat_lt, cond, List, [], ◌∷◌, ◌++◌, length, map, Option, Some, None, is_none, is_some, option_map, Result, Ok, Err, IfErr, refl, ap, sym, ◌∙◌, subst, arith}
 use Rattle.std.specs.List.{cons_option, enumerate_from, filter_map}
 use Rattle.std.specs.Option.{option_or}
 use Rattle.std.specs.Prelude.{codes, unwrap_or}
@@ -16,6 +16,8 @@ use Rattle.plan_grammar.specs.Readings.{Reading}
 use Rattle.plan_grammar.specs.declared.fault.RuleCause.{RuleCause}
 use Rattle.plan_grammar.specs.declared.fault.RuleCause.TheVariants as rule
 use Rattle.plan_grammar.specs.declared.fault.RuleFault.{RuleFault}
+use Rattle.plan_cron.specs.Hints.{hint}
+use Rattle.plan_cron.specs.Lines.{first_beyond}
 use Rattle.plan_rules.specs.declared.crontabs.Kind.{Kind}
 use Rattle.plan_rules.specs.declared.crontabs.Kind.TheVariants as whose
 use Rattle.plan_rules.specs.declared.entry.Entry.{Entry}
@@ -41,10 +43,11 @@ use Rattle.plan_check.specs.declared.deciding.FileFault.TheVariants as fault
 use Rattle.plan_check.specs.declared.finding.Finding.{Finding}
 use Rattle.plan_check.specs.declared.finding.FindingKind.TheVariants.{Rejected, SameName, Full}
 use Rattle.plan_check.specs.Context.{delay_in}
+use Rattle.plan_check.specs.CronWarnings.{is_first}
 use Rattle.plan_check.specs.Crontabs.{after_crontab, after_line, after_lines, crontab_findings, field_quote, line_findings, lines_findings}
 use Rattle.plan_check.specs.Deciding.{deciding, early_cause, early_fault, known_jobs, known_with, late_fault, strictly, unless_fault, with_each}
-use Rattle.plan_check.specs.Finding.{finding_at, first_of, found_if, rejected_at}
-use Rattle.plan_check.specs.Files.{File, after_text, alone, file_reading, jobs_of_text, text_findings, unless_named}
+use Rattle.plan_check.specs.Finding.{error_at, finding_at, first_of, found_if}
+use Rattle.plan_check.specs.Files.{File, after_text, alone, file_reading, jobs_of_text, name_error, text_findings, unless_named}
 use Rattle.plan_check.specs.Known.{KnownJobs, after_other, has_room, is_taken, name_quote, with_jobs, without_warnings}
 use Rattle.plan_check.specs.Settings.{value_of}
 use Rattle.plan_check.specs.Timers as timers
@@ -97,25 +100,26 @@ early_next line cause =
     subst (λ line. early_cause line cause ≡ Some (fault_on_line line cause)) next refl
 
 early_then :
-    (known : KnownJobs) (line : ℕ) (text : List ℕ) (read : LineReading (Option JobParts)) (found : List Finding)
+    (known : KnownJobs) (kind : Kind) (is_beyond : Bool) (line : ℕ) (text : List ℕ) (read : LineReading (Option JobParts)) (found : List Finding)
     (more : List (Entry JobParts)) → early_of found ≡ faults_of more →
-    early_of (line_findings (without_warnings known) (line + 1) text read ++ found)
+    early_of (line_findings (without_warnings known) kind is_beyond (line + 1) text read ++ found)
     ≡ faults_of (cons_option (entry_on (line + 1) read) more)
-early_then known line text (Ok None) found more later = later
-early_then known line text (Ok (Some job)) found more later =
+early_then known kind is_beyond line text (Ok None) found more later = later
+early_then known kind is_beyond line text (Ok (Some job)) found more later =
     early_named known.makes_jobs (is_taken job.name known) (has_room known) known.told (line + 1) job.name found ∙ later
-early_then known line text (Err cause) found more later = λ i. cons_option (early_next line cause i) (later i)
+early_then known kind is_beyond line text (Err cause) found more later = λ i. cons_option (early_next line cause i) (later i)
 
 early_lines :
-    (known : KnownJobs) (label : List ℕ) (kind : Kind) (lines : List (ℕ × List ℕ)) →
-    early_of (lines_findings (without_warnings known) label kind lines) ≡ faults_of (filter_map (line_entry label kind) lines)
-early_lines known label kind [] = refl
-early_lines known label kind (line ∷ more) =
+    (known : KnownJobs) (label : List ℕ) (kind : Kind) (beyond : Option ℕ) (lines : List (ℕ × List ℕ)) →
+    early_of (lines_findings (without_warnings known) label kind beyond lines) ≡ faults_of (filter_map (line_entry label kind) lines)
+early_lines known label kind beyond [] = refl
+early_lines known label kind beyond (line ∷ more) =
     let read = line_reading label kind (line.0 + 1) line.1 in
-    early_then known line.0 line.1 read (lines_findings (after_line (without_warnings known) read) label kind more)
+    early_then known kind (is_first beyond (line.0 + 1)) line.0 line.1 read
+    (lines_findings (after_line (without_warnings known) read) label kind beyond more)
     (filter_map (line_entry label kind) more)
-    (ap (λ (next : KnownJobs). early_of (lines_findings next label kind more)) (line_without known read)
-    ∙ early_lines (after_line known read) label kind more)
+    (ap (λ (next : KnownJobs). early_of (lines_findings next label kind beyond more)) (line_without known read)
+    ∙ early_lines (after_line known read) label kind beyond more)
 
 -- ---- a crontab
 
@@ -191,30 +195,30 @@ job_means (rejected ∷ others) jobs n number job more F G few later early =
     job_before (is_some (number_of job.name jobs)) (nat_lt n most_jobs) jobs number job rejected others F G early
 
 line_means :
-    (jobs : List JobParts) (number : ℕ) (text : List ℕ) (read : LineReading (Option JobParts)) (more : List (Entry JobParts))
+    (jobs : List JobParts) (kind : Kind) (is_beyond : Bool) (number : ℕ) (text : List ℕ) (read : LineReading (Option JobParts)) (more : List (Entry JobParts))
     (F : KnownJobs → List Finding) (G : KnownJobs → KnownJobs) →
     ((next : List JobParts) → strict (F (known_jobs next)) (G (known_jobs next)) ≡ known_with next (meant_by more)) →
     ((known : KnownJobs) → early_of (F (without_warnings known)) ≡ faults_of more) →
-    strict (line_findings (known_jobs jobs) (number + 1) text read ++ F (after_line (known_jobs jobs) read))
+    strict (line_findings (known_jobs jobs) kind is_beyond (number + 1) text read ++ F (after_line (known_jobs jobs) read))
     (G (after_line (known_jobs jobs) read))
     ≡ known_with jobs (meant_by (cons_option (entry_on (number + 1) read) more))
-line_means jobs number text (Ok None) more F G later early = later jobs
-line_means jobs number text (Ok (Some job)) more F G later early =
+line_means jobs kind is_beyond number text (Ok None) more F G later early = later jobs
+line_means jobs kind is_beyond number text (Ok (Some job)) more F G later early =
     job_means (faults_of more) jobs (0 + length jobs) (number + 1) job (given more) F G (omega arith) later early
-line_means jobs number text (Err cause) more F G later early =
+line_means jobs kind is_beyond number text (Err cause) more F G later early =
     let found = F (known_jobs jobs) in
-    early_decides (finding_at (number + 1) (Rejected cause) (field_quote text cause) ∷ found) (G (known_jobs jobs))
+    early_decides (error_at (number + 1) cause (field_quote text cause) (hint (number + 1) text) ∷ found) (G (known_jobs jobs))
     (fault_on_line (number + 1) cause) (early_of found) (λ i. cons_option (early_next number cause i) (early_of found))
 
 lines_mean :
-    (jobs : List JobParts) (label : List ℕ) (kind : Kind) (lines : List (ℕ × List ℕ)) →
-    strict (lines_findings (known_jobs jobs) label kind lines) (after_lines (known_jobs jobs) label kind lines)
+    (jobs : List JobParts) (label : List ℕ) (kind : Kind) (beyond : Option ℕ) (lines : List (ℕ × List ℕ)) →
+    strict (lines_findings (known_jobs jobs) label kind beyond lines) (after_lines (known_jobs jobs) label kind lines)
     ≡ known_with jobs (meant_by (filter_map (line_entry label kind) lines))
-lines_mean jobs label kind [] = refl
-lines_mean jobs label kind (line ∷ more) =
-    line_means jobs line.0 line.1 (line_reading label kind (line.0 + 1) line.1) (filter_map (line_entry label kind) more)
-    (λ known. lines_findings known label kind more) (λ known. after_lines known label kind more)
-    (λ next. lines_mean next label kind more) (λ known. early_lines known label kind more)
+lines_mean jobs label kind beyond [] = refl
+lines_mean jobs label kind beyond (line ∷ more) =
+    line_means jobs kind (is_first beyond (line.0 + 1)) line.0 line.1 (line_reading label kind (line.0 + 1) line.1) (filter_map (line_entry label kind) more)
+    (λ known. lines_findings known label kind beyond more) (λ known. after_lines known label kind more)
+    (λ next. lines_mean next label kind beyond more) (λ known. early_lines known label kind beyond more)
 
 -- a text that is too large or not UTF-8 is rejected
 text_means :
@@ -224,7 +228,11 @@ text_means :
     ≡ known_with jobs (text >>= λ text. meant_by (entries_of_lines label kind (lines text)))
 unfolding entries_of_lines
 text_means true utf8 jobs label kind bytes = refl
-text_means false true jobs label kind bytes = lines_mean jobs label kind (enumerate_from 0 (lines bytes))
+text_means false true jobs label kind bytes =
+    let found = lines_findings (known_jobs jobs) label kind (first_beyond (lines bytes)) (enumerate_from 0 (lines bytes)) in
+    let after = after_lines (known_jobs jobs) label kind (enumerate_from 0 (lines bytes)) in
+    ap (λ (found : List Finding). strict found after) (append-nil found)
+    ∙ lines_mean jobs label kind (first_beyond (lines bytes)) (enumerate_from 0 (lines bytes))
 text_means false false jobs label kind bytes = refl
 
 crontab_means :
@@ -253,16 +261,16 @@ of_name Timer name = name_unless (is_timer_name name) BadTimerName tt
 
 -- a file whose name is bad has that error, whatever its text
 named_means :
-    (cause : Option LineCause) (jobs : List JobParts) (reading : TextReading (List JobParts)) (F : KnownJobs → List Finding)
-    (G : KnownJobs → KnownJobs) → OfName cause →
+    (name : List ℕ) (cause : Option LineCause) (jobs : List JobParts) (reading : TextReading (List JobParts))
+    (F : KnownJobs → List Finding) (G : KnownJobs → KnownJobs) → OfName cause →
     (cause ≡ None → strict (F (known_jobs jobs)) (G (known_jobs jobs)) ≡ known_with jobs reading) →
-    strict (cons_option (option_map (rejected_at 0) cause) [] ++ F (with_jobs (known_jobs jobs) (is_none cause)))
+    strict (cons_option (option_map (name_error name) cause) [] ++ F (with_jobs (known_jobs jobs) (is_none cause)))
     (G (with_jobs (known_jobs jobs) (is_none cause)))
     ≡ known_with jobs (unless_named cause reading)
-named_means None jobs reading F G of means = means refl
-named_means (Some cause) jobs reading F G of means =
+named_means name None jobs reading F G of means = means refl
+named_means name (Some cause) jobs reading F G of means =
     let known = with_jobs (known_jobs jobs) false in
-    early_decides (rejected_at 0 cause ∷ F known) (G known) (fault_on_line 0 cause)
+    early_decides (name_error name cause ∷ F known) (G known) (fault_on_line 0 cause)
     (early_of (F known)) (λ i. cons_option (early_line 0 cause of i) (early_of (F known)))
 
 -- ---- the events of a timer
@@ -390,10 +398,10 @@ abbrev delayed : TimerContext → List (ℕ × List ℕ) → JobParts → JobPar
 delayed context lines job = record job { delay = delay_in context (settings_from false lines) }
 
 lines_of_timer :
-    (context : TimerContext) (jobs : List JobParts) (name : List ℕ) (lines : List (ℕ × List ℕ)) → is_timer_name name ≡ true →
-    strict (timer_findings context (known_jobs jobs) name (Ok lines)) (after_timer context (known_jobs jobs) name (Ok lines))
+    (context : TimerContext) (jobs : List JobParts) (name bytes : List ℕ) (lines : List (ℕ × List ℕ)) → is_timer_name name ≡ true →
+    strict (timer_findings context (known_jobs jobs) name bytes (Ok lines)) (after_timer context (known_jobs jobs) name (Ok lines))
     ≡ known_with jobs (alone (timer_of_lines context.zones name lines >>= λ job. Ok (delayed context lines job)))
-lines_of_timer context jobs name lines good =
+lines_of_timer context jobs name bytes lines good =
     let faults = faults_of (entries_from context.zones no_events (effects_from false lines)) in
     let are = events_rejected (no_lines context.zones) lines in
     timer_means faults (is_timer_name name) (has_timer lines) jobs (0 + length jobs) (right_job context name lines)
@@ -406,19 +414,19 @@ timer_text_means :
     (large utf8 : Bool) (context : TimerContext) (jobs : List JobParts) (name bytes : List ℕ) (f : List ℕ → List (ℕ × List ℕ)) →
     is_timer_name name ≡ true →
     let text = on_line 0 (cond large (Err TooLarge) (cond utf8 (Ok bytes) (Err NotUtf8))) in
-    strict (timer_findings context (known_jobs jobs) name (text >>= λ text. Ok (f text)))
+    strict (timer_findings context (known_jobs jobs) name bytes (text >>= λ text. Ok (f text)))
     (after_timer context (known_jobs jobs) name (text >>= λ text. Ok (f text)))
     ≡ known_with jobs (alone (((text >>= λ text. Ok (f text)) >>= λ lines. timer_of_lines context.zones name lines)
     >>= λ job. (text >>= λ text. Ok (f text)) >>= λ lines. Ok (delayed context lines job)))
 timer_text_means true utf8 context jobs name bytes f good = refl
-timer_text_means false true context jobs name bytes f good = lines_of_timer context jobs name (f bytes) good
+timer_text_means false true context jobs name bytes f good = lines_of_timer context jobs name bytes (f bytes) good
 timer_text_means false false context jobs name bytes f good = refl
 
 -- a timer whose name is good
 timer_named :
     (good : Bool) (context : TimerContext) (jobs : List JobParts) (name bytes : List ℕ) → is_timer_name name ≡ good →
     cond good None (Some BadTimerName) ≡ None →
-    strict (timer_findings context (known_jobs jobs) name (timer_lines bytes))
+    strict (timer_findings context (known_jobs jobs) name bytes (timer_lines bytes))
     (after_timer context (known_jobs jobs) name (timer_lines bytes))
     ≡ known_with jobs (alone (cond good (timer_lines bytes >>= λ lines. timer_of_lines context.zones name lines)
     (on_line 0 (Err BadTimerName)) >>= λ job. timer_lines bytes >>= λ lines. Ok (delayed context lines job)))
@@ -443,6 +451,6 @@ pub law_of_readings :
     (context : TimerContext) (jobs : List JobParts) (file : File) →
     strictly context (known_jobs jobs) file ≡ known_with jobs (file_reading context file.kind file.name file.bytes)
 law_of_readings context jobs file =
-    named_means (name_cause file.kind file.name) jobs (jobs_of_text context file.kind file.name file.bytes)
+    named_means file.name (name_cause file.kind file.name) jobs (jobs_of_text context file.kind file.name file.bytes)
     (λ known. text_findings context known file.kind file.name file.bytes) (λ known. after_text context known file.kind file.name file.bytes)
     (of_name file.kind file.name) (text_jobs context jobs file.kind file.name file.bytes)

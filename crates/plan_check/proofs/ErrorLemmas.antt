@@ -6,6 +6,7 @@ use Rattle.std.specs.List.{cons_option, enumerate_from}
 use Rattle.std.specs.Prelude.{codes}
 use Rattle.plan_clock.specs.declared.row.Change.{Change}
 use Rattle.plan_match.specs.declared.event.Calendar.{Calendar}
+use Rattle.plan_cron.specs.Lines.{first_beyond}
 use Rattle.plan_rules.specs.declared.crontabs.Kind.{Kind}
 use Rattle.plan_rules.specs.declared.crontabs.Kind.TheVariants as whose
 use Rattle.plan_rules.specs.declared.line_fault.LineCause.{LineCause}
@@ -25,15 +26,17 @@ use Rattle.plan_check.specs.declared.context.TimerContext.{TimerContext}
 use Rattle.plan_check.specs.declared.finding.Finding.{Finding}
 use Rattle.plan_check.specs.declared.finding.Warning.TheVariants.{ZoneSetting}
 use Rattle.plan_check.specs.declared.finding.FindingKind.TheVariants.{Rejected, SameName, Full, Warned}
-use Rattle.plan_check.specs.Crontabs.{after_crontab, after_line, after_lines, crontab_findings, entry_findings, line_findings, lines_findings}
-use Rattle.plan_check.specs.Files.{File, after_file, after_text, file_findings, in_file, name_findings, text_findings}
+use Rattle.plan_check.specs.CronWarnings.{end_warnings, is_first, place_warnings}
+use Rattle.plan_check.specs.Crontabs.{after_crontab, after_line, after_lines, crontab_findings, entry_findings, line_findings, lines_findings, reading_findings}
+use Rattle.plan_check.specs.Files.{File, after_file, after_text, file_findings, in_file, name_error, name_findings, text_findings}
 use Rattle.plan_check.specs.Finding.{errors_of, finding_at, found_if, is_clean, is_warning, rejected_at}
 use Rattle.plan_check.specs.Known.{KnownJobs, after_job, after_other, has_room, is_taken, job_findings, name_quote, without_warnings}
 use Rattle.plan_check.specs.Settings.{value_of}
 use Rattle.plan_check.specs.Timers as timers
-use Rattle.plan_check.specs.Timers.{after_timer, event_warnings, read_findings, right_job, setting_findings, step_findings, timer_findings, timer_warnings}
-use Rattle.plan_check.specs.Warnings.{is_zone_setting, warnings_by}
-use Rattle.plan_check.proofs.CleanLemmas.{event_warnings_clean, setting_clean, warnings_clean, whole_clean}
+use Rattle.plan_check.specs.Timers.{after_timer, event_warnings, read_findings, right_job, setting_findings, step_findings, timer_findings}
+use Rattle.plan_check.specs.TimerWarnings.{timer_warnings}
+use Rattle.plan_check.specs.Warnings.{setting_warnings, warnings_by}
+use Rattle.plan_check.proofs.CleanLemmas.{end_clean, event_warnings_clean, line_clean, place_clean, setting_clean, warnings_clean, whole_clean}
 
 -- ---- findings
 
@@ -92,24 +95,35 @@ other_without known name =
 
 -- ---- a crontab
 
-entry_errors :
-    (known : KnownJobs) (line : ℕ) (text : List ℕ) (job : JobParts) →
-    entry_findings (without_warnings known) line text (Ok job) ≡ errors_of (entry_findings known line text (Ok job))
-entry_errors known line text job =
-    sym (errors_append (job_findings known line job.name) (warnings_by known.clock line job)
-    ∙ (λ i. error_of_name known line job.name i ++ none_of_clean (warnings_by known.clock line job)
-    (warnings_clean known.clock line job) i))
+-- what comes after warnings
+errors_after :
+    (warned found : List Finding) → is_clean warned ≡ true → errors_of found ≡ errors_of (warned ++ found)
+errors_after warned found clean =
+    (λ i. sym (none_of_clean warned clean) i ++ errors_of found) ∙ sym (errors_append warned found)
 
-setting_errors : (is_so : Bool) (line : ℕ) → [] ≡ errors_of (found_if is_so line (Warned ZoneSetting) None)
-setting_errors true line = refl
-setting_errors false line = refl
+entry_errors :
+    (known : KnownJobs) (kind : Kind) (line : ℕ) (text : List ℕ) (job : JobParts) →
+    entry_findings (without_warnings known) kind line text (Ok job) ≡ errors_of (entry_findings known kind line text (Ok job))
+entry_errors known kind line text job =
+    sym (errors_append (job_findings known line job.name) (warnings_by known.clock kind line text job)
+    ∙ (λ i. error_of_name known line job.name i ++ none_of_clean (warnings_by known.clock kind line text job)
+    (warnings_clean known.clock kind line text job) i))
+
+reading_errors :
+    (known : KnownJobs) (kind : Kind) (line : ℕ) (text : List ℕ) (read : LineReading (Option JobParts)) →
+    reading_findings (without_warnings known) kind line text read ≡ errors_of (reading_findings known kind line text read)
+reading_errors known kind line text (Ok None) =
+    sym (none_of_clean (setting_warnings known.clock line text) (line_clean known.clock line text))
+reading_errors known kind line text (Ok (Some job)) = entry_errors known kind line text job
+reading_errors known kind line text (Err cause) = refl
 
 line_errors :
-    (known : KnownJobs) (line : ℕ) (text : List ℕ) (read : LineReading (Option JobParts)) →
-    line_findings (without_warnings known) line text read ≡ errors_of (line_findings known line text read)
-line_errors known line text (Ok None) = setting_errors (is_some known.clock && is_zone_setting text) line
-line_errors known line text (Ok (Some job)) = entry_errors known line text job
-line_errors known line text (Err cause) = refl
+    (known : KnownJobs) (kind : Kind) (is_beyond : Bool) (line : ℕ) (text : List ℕ) (read : LineReading (Option JobParts)) →
+    line_findings (without_warnings known) kind is_beyond line text read ≡ errors_of (line_findings known kind is_beyond line text read)
+line_errors known kind is_beyond line text read =
+    reading_errors known kind line text read
+    ∙ errors_after (place_warnings known.clock is_beyond line text) (reading_findings known kind line text read)
+    (place_clean known.clock is_beyond line text)
 
 pub line_without :
     (known : KnownJobs) (read : LineReading (Option JobParts)) →
@@ -119,15 +133,16 @@ line_without known (Ok (Some job)) = job_without known job
 line_without known (Err cause) = refl
 
 lines_errors :
-    (known : KnownJobs) (label : List ℕ) (kind : Kind) (lines : List (ℕ × List ℕ)) →
-    lines_findings (without_warnings known) label kind lines ≡ errors_of (lines_findings known label kind lines)
-lines_errors known label kind [] = refl
-lines_errors known label kind (line ∷ more) =
+    (known : KnownJobs) (label : List ℕ) (kind : Kind) (beyond : Option ℕ) (lines : List (ℕ × List ℕ)) →
+    lines_findings (without_warnings known) label kind beyond lines ≡ errors_of (lines_findings known label kind beyond lines)
+lines_errors known label kind beyond [] = refl
+lines_errors known label kind beyond (line ∷ more) =
     let read = line_reading label kind (line.0 + 1) line.1 in
-    (λ i. line_errors known (line.0 + 1) line.1 read i ++ lines_findings (line_without known read i) label kind more)
-    ∙ ap (λ later. errors_of (line_findings known (line.0 + 1) line.1 read) ++ later)
-    (lines_errors (after_line known read) label kind more)
-    ∙ sym (errors_append (line_findings known (line.0 + 1) line.1 read) (lines_findings (after_line known read) label kind more))
+    let first = line_findings known kind (is_first beyond (line.0 + 1)) (line.0 + 1) line.1 read in
+    (λ i. line_errors known kind (is_first beyond (line.0 + 1)) (line.0 + 1) line.1 read i
+    ++ lines_findings (line_without known read i) label kind beyond more)
+    ∙ ap (λ later. errors_of first ++ later) (lines_errors (after_line known read) label kind beyond more)
+    ∙ sym (errors_append first (lines_findings (after_line known read) label kind beyond more))
 
 lines_without :
     (known : KnownJobs) (label : List ℕ) (kind : Kind) (lines : List (ℕ × List ℕ)) →
@@ -141,7 +156,11 @@ lines_without known label kind (line ∷ more) =
 crontab_errors :
     (known : KnownJobs) (label : List ℕ) (kind : Kind) (text : TextReading (List ℕ)) →
     crontab_findings (without_warnings known) label kind text ≡ errors_of (crontab_findings known label kind text)
-crontab_errors known label kind (Ok text) = lines_errors known label kind (enumerate_from 0 (lines text))
+crontab_errors known label kind (Ok text) =
+    let found = lines_findings known label kind (first_beyond (lines text)) (enumerate_from 0 (lines text)) in
+    (λ i. lines_errors known label kind (first_beyond (lines text)) (enumerate_from 0 (lines text)) i
+    ++ sym (none_of_clean (end_warnings known.clock text) (end_clean known.clock text)) i)
+    ∙ sym (errors_append found (end_warnings known.clock text))
 crontab_errors known label kind (Err fault) = refl
 
 crontab_without :
@@ -198,16 +217,16 @@ missing_errors true = refl
 missing_errors false = refl
 
 timer_errors :
-    (context : TimerContext) (known : KnownJobs) (name : List ℕ) (text : TextReading (List (ℕ × List ℕ))) →
-    timer_findings context (without_warnings known) name text ≡ errors_of (timer_findings context known name text)
-timer_errors context known name (Err fault) = ap (λ found. rejected_at fault.line fault.cause ∷ found) (sym (error_of_name known 0 name))
-timer_errors context known name (Ok lines) =
+    (context : TimerContext) (known : KnownJobs) (name bytes : List ℕ) (text : TextReading (List (ℕ × List ℕ))) →
+    timer_findings context (without_warnings known) name bytes text ≡ errors_of (timer_findings context known name bytes text)
+timer_errors context known name bytes (Err fault) = ap (λ found. rejected_at fault.line fault.cause ∷ found) (sym (error_of_name known 0 name))
+timer_errors context known name bytes (Ok lines) =
     let missing = found_if (not (has_timer lines)) 0 (Rejected NoTimerSection) None in
     let named = job_findings known 0 name in
-    let warned = timer_warnings known.clock lines in
+    let warned = timer_warnings known.clock context name bytes lines in
     let later = timers.lines_findings known.clock (no_lines context.zones) lines in
     (λ i. missing_errors (not (has_timer lines)) i ++ (sym (error_of_name known 0 name) i
-    ++ (sym (none_of_clean warned (whole_clean known.clock lines)) i ++ timer_lines_errors known.clock (no_lines context.zones) lines i)))
+    ++ (sym (none_of_clean warned (whole_clean known.clock context name bytes lines)) i ++ timer_lines_errors known.clock (no_lines context.zones) lines i)))
     ∙ sym (errors_append missing (named ++ (warned ++ later))
     ∙ ap (λ found. errors_of missing ++ found) (errors_append named (warned ++ later)
     ∙ ap (λ found. errors_of named ++ found) (errors_append warned later)))
@@ -236,7 +255,7 @@ text_errors context known Crontab name bytes = crontab_errors known (codes "cron
 text_errors context known System name bytes = crontab_errors known (codes "system") whose.System (text_reading bytes)
 text_errors context known CronD name bytes = crontab_errors known name whose.System (text_reading bytes)
 text_errors context known Spool name bytes = crontab_errors known name whose.User (text_reading bytes)
-text_errors context known Timer name bytes = timer_errors context known name (timer_lines bytes)
+text_errors context known Timer name bytes = timer_errors context known name bytes (timer_lines bytes)
 
 text_without :
     (context : TimerContext) (known : KnownJobs) (kind : SourceKind) (name bytes : List ℕ) →
@@ -248,17 +267,17 @@ text_without context known Spool name bytes = crontab_without known name whose.U
 text_without context known Timer name bytes = timer_without context known name (timer_lines bytes)
 
 name_errors :
-    (cause : Option LineCause) →
-    cons_option (option_map (rejected_at 0) cause) [] ≡ errors_of (cons_option (option_map (rejected_at 0) cause) [])
-name_errors None = refl
-name_errors (Some cause) = refl
+    (name : List ℕ) (cause : Option LineCause) →
+    cons_option (option_map (name_error name) cause) [] ≡ errors_of (cons_option (option_map (name_error name) cause) [])
+name_errors name None = refl
+name_errors name (Some cause) = refl
 
 pub file_errors :
     (context : TimerContext) (known : KnownJobs) (file : File) → file_findings context (without_warnings known) file
     ≡ errors_of (file_findings context known file)
 file_errors context known file =
     let inside = in_file known file.kind file.name in
-    (λ i. name_errors (name_cause file.kind file.name) i ++ text_errors context inside file.kind file.name file.bytes i)
+    (λ i. name_errors file.name (name_cause file.kind file.name) i ++ text_errors context inside file.kind file.name file.bytes i)
     ∙ sym (errors_append (name_findings file.kind file.name) (text_findings context inside file.kind file.name file.bytes))
 
 pub file_without :

@@ -3,3 +3,4 @@ pub mod ErrorLemmas
 pub mod LinesLemmas
 pub mod TimerLinesLemmas
 pub mod DecidingLemmas
+pub mod NoteLemmas

@@ -1,6 +1,6 @@
 -- The lines of a timer file, one after the other: for the loop of `read_lines`. What is known before a line, with what the remaining
 -- lines add to it, is what all lines say (`one_more`, by a lemma `_front` for each part).
-use Rattle.std.proofs.Common.{◌≡◌, ℕ, Bool, true, false, not, ◌&&◌, ◌||◌, if◌then◌else◌, List, [], ◌∷◌, filter, map, Option, Some, None, refl, ap, sym, ◌∙◌}
+use Rattle.std.proofs.Common.{◌≡◌, ℕ, Bool, true, false, not, ◌&&◌, ◌||◌, if◌then◌else◌, List, [], ◌∷◌, ◌++◌, append-nil, append_assoc, filter, map, Option, Some, None, refl, ap, sym, ◌∙◌}
 use Rattle.std.specs.List.{cons_option, list_any}
 use Rattle.plan_rules.specs.TimerDelays.{Setting, last_or}
 use Rattle.plan_rules.specs.TimerEntries.{TimerState, state_after}
@@ -50,6 +50,13 @@ stands_front test revokes before (Some setting) more =
 pub stands_last : (test revokes : Setting → Bool) (before : Bool) → stands_with test revokes before [] ≡ before
 stands_last test revokes true = refl
 stands_last test revokes false = refl
+
+-- one more setting, if there is one
+pub kept_front :
+    (kept : List Setting) (setting : Option Setting) (more : List Setting) →
+    kept ++ cons_option setting more ≡ (kept ++ cons_option setting []) ++ more
+kept_front kept None more = ap (λ all. all ++ more) (sym (append-nil kept))
+kept_front kept (Some setting) more = sym (append_assoc kept (setting ∷ []) more)
 
 -- the last value of the random delay in settings that is a time span, or the given one
 abbrev pub delay_with : List ℕ → List Setting → List ℕ

@@ -1,13 +1,13 @@
 -- How a file is read, by the kind of its source: its name, the jobs of its bytes, its findings, and what is known after it (agenda).
-use Rattle.std.specs.Prelude.{ℕ, false, if◌then◌else◌, List, [], ◌∷◌, ◌++◌, codes, Option, Some, None, is_none, option_map, Ok, Err}
-use Rattle.std.specs.List.{cons_option}
+use Rattle.std.specs.Prelude.{ℕ, false, nat_eq, if◌then◌else◌, List, [], ◌∷◌, ◌++◌, codes, Option, Some, None, is_none, option_map, Ok, Err}
+use Rattle.std.specs.List.{cons_option, ends_with}
 use Rattle.std.specs.Option.{option_or}
 use Rattle.std.specs.Str.{is_utf8}
 use Rattle.plan_texts.specs.Lines.{is_too_large}
 use Rattle.plan_texts.specs.Steps.{◌>>=◌}
 use Rattle.plan_rules.specs.declared.crontabs.Kind.TheVariants as whose
 use Rattle.plan_rules.specs.declared.line_fault.LineCause.{LineCause}
-use Rattle.plan_rules.specs.declared.line_fault.LineCause.TheVariants.{NotUtf8, TooLarge}
+use Rattle.plan_rules.specs.declared.line_fault.LineCause.TheVariants.{BadTimerName, NotUtf8, TooLarge}
 use Rattle.plan_rules.specs.declared.source_kind.SourceKind.{SourceKind}
 use Rattle.plan_rules.specs.declared.source_kind.SourceKind.TheVariants.{Crontab, System, CronD, Spool, Timer}
 use Rattle.plan_rules.specs.Crontab.{crontab_reading}
@@ -69,9 +69,19 @@ file_reading context kind name bytes = unless_named (name_cause kind name) (jobs
 
 -- ---- findings
 
+-- what the error of a file's name ends with: a timer's file without the ending may be a crontab
+abbrev pub name_detail : (name : List ℕ) → LineCause → Option (List ℕ)
+name_detail name BadTimerName =
+    if ends_with nat_eq name (codes ".timer") then None else Some (codes "for a crontab, use --crontab or --cron-d")
+name_detail name other = None
+
+-- the error of a file's name, which quotes nothing
+abbrev pub name_error : (name : List ℕ) → LineCause → Finding
+name_error name cause = record (rejected_at 0 cause) { detail = name_detail name cause }
+
 -- the finding of a file's name, if it is bad
 abbrev pub name_findings : SourceKind → (name : List ℕ) → List Finding
-name_findings kind name = cons_option (option_map (rejected_at 0) (name_cause kind name)) []
+name_findings kind name = cons_option (option_map (name_error name) (name_cause kind name)) []
 
 -- what is known in a file: if its name is bad, it makes no jobs
 abbrev pub in_file : KnownJobs → SourceKind → (name : List ℕ) → KnownJobs
@@ -83,7 +93,7 @@ text_findings context known Crontab name bytes = crontab_findings known (codes "
 text_findings context known System name bytes = crontab_findings known (codes "system") whose.System (text_reading bytes)
 text_findings context known CronD name bytes = crontab_findings known name whose.System (text_reading bytes)
 text_findings context known Spool name bytes = crontab_findings known name whose.User (text_reading bytes)
-text_findings context known Timer name bytes = timer_findings context known name (timer_lines bytes)
+text_findings context known Timer name bytes = timer_findings context known name bytes (timer_lines bytes)
 
 -- what is known after a file's text
 abbrev pub after_text : TimerContext → KnownJobs → SourceKind → (name bytes : List ℕ) → KnownJobs

@@ -1,10 +1,11 @@
 pub mod Finding
 pub mod Known
-pub mod Skipped
 pub mod Warnings
+pub mod CronWarnings
 pub mod Crontabs
 pub mod Settings
 pub mod Context
 pub mod Timers
 pub mod Files
 pub mod Deciding
+pub mod TimerWarnings

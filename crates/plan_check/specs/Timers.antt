@@ -1,8 +1,7 @@
 -- The findings of a timer file (systemd.timer(5)). Which findings there are, and their order, is our choice (agenda).
-use Rattle.std.specs.Prelude.{ℕ, Bool, false, not, ◌&&◌, ◌==◌, if◌then◌else◌, List, [], ◌∷◌, ◌++◌, Option, Some, None, option_map, is_some, Ok, Err}
-use Rattle.std.specs.List.{cons_option}
+use Rattle.std.specs.Prelude.{ℕ, Bool, false, true, not, ◌&&◌, ◌==◌, nat_lt, if◌then◌else◌, List, [], ◌∷◌, ◌++◌, length, Option, Some, None, is_some, Ok, Err}
 use Rattle.plan_clock.specs.declared.row.Change.{Change}
-use Rattle.plan_match.specs.Zone.{rule_in}
+use Rattle.plan_match.specs.Zone.{event_in, rule_in}
 use Rattle.plan_match.specs.declared.event.Calendar.{Calendar}
 use Rattle.plan_match.specs.declared.rule.Rule.TheVariants.{Events}
 use Rattle.plan_rules.specs.declared.line_fault.LineCause.{LineCause}
@@ -14,13 +13,19 @@ use Rattle.plan_rules.specs.TimerDelays.{Setting}
 use Rattle.plan_rules.specs.TimerEntries.{LineStep, Idle, Empties, Has, Names, TimerState, held_after, line_in, lines_draft, no_lines, state_after}
 use Rattle.plan_check.specs.declared.context.TimerContext.{TimerContext}
 use Rattle.plan_check.specs.declared.finding.Finding.{Finding}
-use Rattle.plan_check.specs.declared.finding.Warning.TheVariants.{NeverStarts, NoEvents, SkippedStarts, UnknownKey, BadDelay, Monotonic, Delayed}
+use Rattle.plan_check.specs.declared.finding.Warning.TheVariants.{NeverStarts, SkippedStarts, UnknownKey, BadDelay, MayStop, RangeFromEnd, SystemdRejects, UnitIgnored}
 use Rattle.plan_check.specs.declared.finding.FindingKind.TheVariants.{Rejected, Warned}
 use Rattle.plan_check.specs.Context.{delay_in}
-use Rattle.plan_check.specs.Finding.{finding_at, found_if, rejected_at}
+use Rattle.plan_check.specs.Finding.{error_at, found_if, found_with, rejected_at}
 use Rattle.plan_check.specs.Known.{KnownJobs, after_job, after_other, job_findings}
-use Rattle.plan_check.specs.Settings.{is_bad_delay, is_delayed, is_monotonic, is_unknown_key, last_delay, value_of}
-use Rattle.plan_check.specs.Skipped.{may_skip_starts}
+use Rattle.plan_check.specs.Settings.{is_bad_delay, is_monotonic, is_unknown_key, value_of}
+use Rattle.plan_check.specs.TimerWarnings.{timer_warnings}
+use Rattle.plan_triggers.specs.TimerFile.{is_bad_unit}
+use Rattle.plan_systemd.specs.EventHint.{event_hint}
+use Rattle.plan_systemd.specs.FromEnd.{from_end_of}
+use Rattle.plan_systemd.specs.MayStop.{may_stop}
+use Rattle.plan_systemd.specs.Rejection.{rejection_of}
+use Rattle.plan_systemd.specs.Skipped.{may_skip_starts}
 use Rattle.plan_check.specs.Warnings.{never_starts}
 
 -- ---- one line
@@ -30,18 +35,36 @@ abbrev pub event_quote : (event : List ℕ) → LineCause → Option (List ℕ)
 event_quote event (Rule fault) = Some event
 event_quote event other = None
 
--- the warnings on an event: a job with only this event never starts, by the clock of a zone, and systemd may pass over its
--- starts, which quotes the event. Without a clock there are no warnings
+-- the clock of an event has changes, in the zone of a clock
+abbrev pub has_changes : List Change → Calendar → Bool
+has_changes clock event = nat_lt 0 (length (event_in clock event).clock)
+
+-- what to write for an event at which systemd may stop for good; it doesn't in UTC
+abbrev pub stop_in : (has_changes : Bool) → (stop : Option (List ℕ)) → Option (List ℕ)
+stop_in true stop = stop
+stop_in false stop = None
+
+-- how systemd reads an event with this text otherwise, if it does; each finding quotes the event
+abbrev pub difference_findings :
+    ℕ → (text : List ℕ) → (rejected from_end : Option (List ℕ)) → (skips : Bool) → (stop : Option (List ℕ)) → List Finding
+difference_findings line text rejected from_end skips stop =
+    found_with rejected line (Warned SystemdRejects) (Some text)
+    ++ (found_with from_end line (Warned RangeFromEnd) (Some text)
+    ++ (found_if skips line (Warned SkippedStarts) (Some text) ++ found_with stop line (Warned MayStop) (Some text)))
+
+-- the warnings on an event: a job with only this event never starts, by the clock of a zone, or systemd reads the event otherwise.
+-- Without a clock there are no warnings
 abbrev pub event_warnings : Option (List Change) → ℕ → (text : List ℕ) → Calendar → List Finding
 event_warnings None line text event = []
 event_warnings (Some clock) line text event =
     found_if (never_starts (rule_in clock (Events (event ∷ [])))) line (Warned NeverStarts) None
-    ++ found_if (may_skip_starts text event) line (Warned SkippedStarts) (Some text)
+    ++ difference_findings line text (rejection_of text) (from_end_of text) (may_skip_starts text event)
+    (stop_in (has_changes clock event) (may_stop text event))
 
 -- the findings of an event: its error, or the warnings on it
 abbrev pub read_findings : Option (List Change) → ℕ → (text : List ℕ) → LineReading Calendar → List Finding
 read_findings clock line text (Ok event) = event_warnings clock line text event
-read_findings clock line text (Err cause) = finding_at line (Rejected cause) (event_quote text cause) ∷ []
+read_findings clock line text (Err cause) = error_at line cause (event_quote text cause) (event_hint text) ∷ []
 
 -- the findings of what a line does, with its setting: those of its event
 abbrev pub step_findings : Option (List Change) → Option Setting → LineStep → List Finding
@@ -55,7 +78,8 @@ abbrev pub setting_findings : Option (List Change) → ℕ → Option Setting �
 setting_findings clock line None = []
 setting_findings clock line (Some setting) =
     found_if (is_some clock && is_unknown_key setting.0) line (Warned UnknownKey) (Some setting.0)
-    ++ found_if (is_some clock && is_bad_delay setting) line (Warned BadDelay) (Some setting.1)
+    ++ (found_if (is_some clock && is_bad_delay setting) line (Warned BadDelay) (Some setting.1)
+    ++ found_if (is_some clock && is_bad_unit setting) line (Warned UnitIgnored) (Some setting.1))
 
 -- the findings of a line, in the state before it
 abbrev pub line_findings : Option (List Change) → TimerState → ℕ × List ℕ → List Finding
@@ -70,14 +94,6 @@ lines_findings clock state (line ∷ more) = line_findings clock state line ++ l
 
 -- ---- a timer file
 
--- the warnings on the whole file, in this order; that it has a random delay quotes the delay. Without a clock there are none
-abbrev pub timer_warnings : Option (List Change) → List (ℕ × List ℕ) → List Finding
-timer_warnings None lines = []
-timer_warnings (Some clock) lines =
-    found_if (has_timer lines && (held_after lines == 0)) 0 (Warned NoEvents) None
-    ++ (found_if (is_monotonic (settings_from false lines)) 0 (Warned Monotonic) None
-    ++ found_if (is_delayed (settings_from false lines)) 0 (Warned Delayed) (Some (last_delay (settings_from false lines))))
-
 -- the timer has a monotonic setting and no event, so it never elapses at a time that can be told before (systemd.timer(5))
 abbrev pub is_only_monotonic : TextReading (List (ℕ × List ℕ)) → Bool
 is_only_monotonic (Ok lines) = (held_after lines == 0) && is_monotonic (settings_from false lines)
@@ -86,11 +102,12 @@ is_only_monotonic (Err fault) = false
 -- the findings of the whole lines of a text: first those of the whole file, then those of its lines. Each timer makes a job,
 -- whatever else is rejected, unless the file's name is bad. A text that is too large or not UTF-8 has no lines, and no missing
 -- section is reported
-abbrev pub timer_findings : TimerContext → KnownJobs → List ℕ → TextReading (List (ℕ × List ℕ)) → List Finding
-timer_findings context known name (Ok lines) =
+abbrev pub timer_findings : TimerContext → KnownJobs → (name bytes : List ℕ) → TextReading (List (ℕ × List ℕ)) → List Finding
+timer_findings context known name bytes (Ok lines) =
     found_if (not (has_timer lines)) 0 (Rejected NoTimerSection) None
-    ++ (job_findings known 0 name ++ (timer_warnings known.clock lines ++ lines_findings known.clock (no_lines context.zones) lines))
-timer_findings context known name (Err fault) = rejected_at fault.line fault.cause ∷ job_findings known 0 name
+    ++ (job_findings known 0 name
+    ++ (timer_warnings known.clock context name bytes lines ++ lines_findings known.clock (no_lines context.zones) lines))
+timer_findings context known name bytes (Err fault) = rejected_at fault.line fault.cause ∷ job_findings known 0 name
 
 -- ---- the job that is kept
 

@@ -1,18 +1,21 @@
 -- The warnings on the lines of crontabs: on valid rules, on what they run, and on settings.
-use Rattle.std.specs.Prelude.{ℕ, ◌-◌, Bool, true, false, not, ◌&&◌, ◌||◌, ◌==◌, nat_eq, nat_lt, List, [], ◌∷◌, ◌++◌, length, codes, Option, Some, None, is_none, slice_get}
-use Rattle.std.specs.List.{before_first, ends_with, list_any, position_or_len, range_with_len, slice_index}
+use Rattle.std.specs.Prelude.{ℕ, Bool, true, false, not, ◌&&◌, ◌==◌, nat_eq, nat_lt, List, [], ◌∷◌, ◌++◌, length, codes, Option, Some, None, is_none, is_some, slice_get}
+use Rattle.std.specs.List.{before_first, ends_with, list_any, position_or_len}
 use Rattle.std.specs.Str.{byte, bytes_eq}
 use Rattle.plan_sets.specs.Limits.{end_second}
 use Rattle.plan_clock.specs.declared.row.Change.{Change}
+use Rattle.plan_cron.specs.Commands.{has_bare_percent}
 use Rattle.plan_match.specs.Zone.{rule_in}
 use Rattle.plan_match.specs.declared.rule.Rule.{Rule}
 use Rattle.plan_match.specs.declared.rule.Rule.TheVariants.{Cron, Never, Events}
 use Rattle.plan_next.specs.Starts.{starts}
+use Rattle.plan_rules.specs.declared.crontabs.Kind.{Kind}
 use Rattle.plan_rules.specs.Job.{JobParts}
 use Rattle.plan_texts.specs.WholeLines.{trimmed}
 use Rattle.plan_check.specs.declared.finding.Finding.{Finding}
-use Rattle.plan_check.specs.declared.finding.Warning.TheVariants.{NeverStarts, EitherDay, Percent, CarriageReturn}
+use Rattle.plan_check.specs.declared.finding.Warning.TheVariants.{NeverStarts, EitherDay, Percent, CarriageReturn, ZoneSetting}
 use Rattle.plan_check.specs.declared.finding.FindingKind.TheVariants.{Warned}
+use Rattle.plan_check.specs.CronWarnings.{cron_warnings, fault_warnings}
 use Rattle.plan_check.specs.Finding.{found_if}
 
 -- a rule has no start from 1970 to 2999 (agenda)
@@ -39,15 +42,6 @@ rule_warnings clock line rule =
 
 -- ---- what a line runs
 
--- the byte at a position is a `%` that follows no backslash
-abbrev pub is_bare_percent : List ℕ → ℕ → Bool
-is_bare_percent command i =
-    (slice_index command i == byte "%") && ((i == 0) || not (slice_index command (i - 1) == byte "\\"))
-
--- a command has such a `%`: cron ends the command there, and passes the rest as its input (crontab(5))
-abbrev pub has_bare_percent : List ℕ → Bool
-has_bare_percent command = list_any (is_bare_percent command) (range_with_len 0 (length command))
-
 -- a command ends with a carriage return, byte 13, as lines of other systems do (agenda)
 abbrev pub ends_with_return : List ℕ → Bool
 ends_with_return command = ends_with nat_eq command (13 ∷ [])
@@ -58,14 +52,15 @@ command_warnings line command =
     found_if (has_bare_percent command) line (Warned Percent) None
     ++ found_if (ends_with_return command) line (Warned CarriageReturn) None
 
--- the warnings on the job of a line, in this order (agenda)
-abbrev pub job_warnings : List Change → ℕ → JobParts → List Finding
-job_warnings clock line job = rule_warnings clock line job.rule ++ command_warnings line job.command
+-- the warnings on the job of a line with a text, in this order (agenda)
+abbrev pub job_warnings : List Change → Kind → ℕ → (text : List ℕ) → JobParts → List Finding
+job_warnings clock kind line text job =
+    rule_warnings clock line job.rule ++ (command_warnings line job.command ++ cron_warnings kind line text job)
 
 -- the same, if there is a clock: without one there are no warnings
-abbrev pub warnings_by : Option (List Change) → ℕ → JobParts → List Finding
-warnings_by None line job = []
-warnings_by (Some clock) line job = job_warnings clock line job
+abbrev pub warnings_by : Option (List Change) → Kind → ℕ → (text : List ℕ) → JobParts → List Finding
+warnings_by None kind line text job = []
+warnings_by (Some clock) kind line text job = job_warnings clock kind line text job
 
 -- ---- settings
 
@@ -79,3 +74,8 @@ is_zone_setting line =
     let is_equals : ℕ → Bool = λ b. b == byte "=" in
     nat_lt (position_or_len is_equals line) (length line)
     && list_any (bytes_eq (trimmed (before_first is_equals line))) zone_names
+
+-- the warnings on a line that makes no job, in this order: on a setting of a zone, and by how cron reads the line (agenda)
+abbrev pub setting_warnings : Option (List Change) → ℕ → (text : List ℕ) → List Finding
+setting_warnings clock line text =
+    found_if (is_some clock && is_zone_setting text) line (Warned ZoneSetting) None ++ fault_warnings clock line text

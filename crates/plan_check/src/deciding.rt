@@ -39,7 +39,7 @@ fn late_fault(alloc: Global, finding: Finding) -> FileFault
     match finding.kind {
         FindingKind::Rejected(cause) => FileFault::Rejected(fault_on(finding.line, cause)),
         FindingKind::SameName => FileFault::SameName(name_in(alloc, finding.quote)),
-        FindingKind::Full | FindingKind::Warned(_) => FileFault::Full,
+        FindingKind::Full | FindingKind::Warned(_) | FindingKind::Denied(_) => FileFault::Full,
     }
 }
 

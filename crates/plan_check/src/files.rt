@@ -1,23 +1,31 @@
 //! The findings of a file, by the kind of its source.
 
-ghost use Rattle.std.specs.Prelude.{◌≡◌, ◌++◌, IfOk, OnOk};
+ghost use Rattle.std.specs.Prelude.{◌≡◌, ◌++◌, ◌∷◌, [], IfOk, OnOk};
 ghost use Rattle.plan_rules.specs.SourceKind.{name_cause};
-ghost use Rattle.plan_check.specs.Files.{after_file, after_text, bytes_cause, cause_at_once, file_findings, file_of, in_file, name_findings, text_findings};
+ghost use Rattle.plan_check.specs.Files.{after_file, after_text, bytes_cause, cause_at_once, file_findings, file_of, in_file, name_detail, name_error, name_findings, text_findings};
 
 use crate::context::TimerContext;
 use crate::crontabs::add_crontab;
-use crate::finding::Finding;
+use crate::finding::{Finding, FindingKind};
 use crate::known::Known;
-use crate::report::reject;
+use crate::report::kept;
 use crate::timers::add_timer;
 use plan_rules::{Kind, LineCause, LineFault, SourceKind, text_of};
+use plan_texts::Text;
 use std::alloc::{AllocError, Global};
+
+// How the name of a timer's file ends.
+const TIMER_ENDING: &[u8] = b".timer";
+
+// How a crontab is checked, if one is given where a timer is expected.
+const CRONTAB_HINT: &str = "for a crontab, use --crontab or --cron-d";
 
 /// Returns all findings of the file of a source of this kind, in order. Adds the jobs of which nothing is rejected to
 /// `known`, which has the jobs before them. Timers are read in this context.
 ///
 /// The first finding is that the name is bad: `BadTabName` or `BadTimerName`, see `SourceKind::name_cause`. A file whose
-/// name is bad makes no jobs, so it has no findings about their names. If the text has more than 1,048,576 bytes, the
+/// name is bad makes no jobs, so it has no findings about their names. If the name of a timer doesn't end in `.timer`, the
+/// message ends with how a crontab is checked. If the text has more than 1,048,576 bytes, the
 /// next finding is `TooLarge`; else, if it isn't UTF-8, it is `NotUtf8`. Such a text has no lines.
 ///
 /// The jobs of the crontab of a user, or of the system, are named after `cron` or `system`, and those of another
@@ -66,7 +74,7 @@ pub fn file_findings(
     ensures known { OnOk result (known.new ≡ after_file context.now known.old (file_of kind name.now bytes.now)) }
 {
     let mut found = Vec::with_capacity(alloc, 1)?;
-    add_name(known, &mut found, kind, name)?;
+    add_name(alloc, known, &mut found, kind, name)?;
     add_text(alloc, known, &mut found, kind, name, bytes, context)?;
     Ok(found)
 }
@@ -81,6 +89,7 @@ pub fn cause_at_once(kind: SourceKind, name: &str, bytes: &[u8]) -> Option<LineC
 
 // Begins the file with a name, and adds what is wrong with the name.
 fn add_name(
+    alloc: Global,
     known: &mut Known,
     found: &mut Vec<Finding>,
     kind: SourceKind,
@@ -92,8 +101,39 @@ fn add_name(
     let cause = kind.name_cause(name);
     known.begin_file(cause.is_none());
     match cause {
-        Some(cause) => reject(found, 0, cause, None),
+        Some(cause) => add_name_error(alloc, found, name, cause),
         None => Ok(()),
+    }
+}
+
+// Adds the error of a file's name.
+fn add_name_error(
+    alloc: Global,
+    found: &mut Vec<Finding>,
+    name: &str,
+    cause: LineCause,
+) -> Result<(), AllocError>
+    ensures { OnOk result (found.new.items ≡ found.old.items ++ name_error name.now cause ∷ []) }
+{
+    let detail = name_detail(alloc, name, cause)?;
+    found.push(Finding {
+        line: 0,
+        kind: FindingKind::Rejected(cause),
+        quote: None,
+        detail,
+    })?;
+    Ok(())
+}
+
+// Returns what the error of a file's name ends with.
+fn name_detail(alloc: Global, name: &str, cause: LineCause) -> Result<Option<Text>, AllocError>
+    ensures { IfOk result (λ detail. detail ≡ name_detail name.now cause) }
+{
+    match cause {
+        LineCause::BadTimerName if !name.as_bytes().ends_with(TIMER_ENDING) => {
+            Ok(Some(kept(alloc, CRONTAB_HINT)?))
+        }
+        _ => Ok(None),
     }
 }
 

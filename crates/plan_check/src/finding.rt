@@ -31,6 +31,26 @@ pub enum Warning {
     Monotonic,
     /// The timer starts later than planned, by up to the value of `RandomizedDelaySec=` (systemd.timer(5)).
     Delayed,
+    /// systemd 252 rejects an event of a timer.
+    SystemdRejects,
+    /// systemd 252 reads a range of days from the month's end otherwise.
+    RangeFromEnd,
+    /// systemd 252 may stop for good at an event, in a zone whose clock changes.
+    MayStop,
+    /// Starts of a timer are so close together that systemd may merge them (systemd.timer(5), `AccuracySec=`).
+    Merged,
+    /// Debian's cron ignores the whole crontab.
+    CronIgnores,
+    /// Debian's cron reads a line of a crontab otherwise.
+    CronDiffers,
+    /// The user of a line of a system's crontab can't be the name of a user.
+    NoUser,
+    /// systemd 252 rejects the whole timer.
+    TimerRejected,
+    /// systemd 252 ignores the value of `Unit=` (systemd.timer(5)).
+    UnitIgnored,
+    /// systemd ends a line of a timer earlier, at a carriage return or a NUL byte.
+    LineEnd,
 }
 
 /// The error or the warning of a finding.
@@ -44,14 +64,16 @@ pub enum FindingKind {
     Full,
     /// The text is valid, and may not be what was meant.
     Warned(Warning),
+    /// The same, but it was requested that the warning is an error. No function of this crate returns it.
+    Denied(Warning),
 }
 
 /// A finding of a line, or of a whole file.
 ///
 /// - An error of a crontab's rule quotes the field that it is about, or the first word if it is about no field.
-/// - An error of an event, and `SkippedStarts`, quote the value of `OnCalendar=`.
+/// - An error of an event, `SkippedStarts`, `SystemdRejects`, `RangeFromEnd` and `MayStop` quote the value of `OnCalendar=`.
 /// - `SameName` quotes the name of the job, `UnknownKey` the key, `BadDelay` the value, and `Delayed` the last value of
-///   `RandomizedDelaySec=` that is a time span.
+///   `RandomizedDelaySec=` that is a time span. `NoUser` quotes the user, and `UnitIgnored` the value.
 /// - The other findings quote nothing.
 #[derive(Debug, Drop)]
 pub struct Finding {
@@ -61,6 +83,8 @@ pub struct Finding {
     pub kind: FindingKind,
     /// The text that the message quotes. `None` if it quotes nothing.
     pub quote: Option<Text>,
+    /// What the message ends with: a reason, or what to write instead. `None` if it ends with nothing.
+    pub detail: Option<Text>,
 }
 
 impl Warning {
@@ -80,6 +104,16 @@ impl Warning {
             Warning::BadDelay => "BadDelay",
             Warning::Monotonic => "Monotonic",
             Warning::Delayed => "Delayed",
+            Warning::SystemdRejects => "SystemdRejects",
+            Warning::RangeFromEnd => "RangeFromEnd",
+            Warning::MayStop => "MayStop",
+            Warning::Merged => "Merged",
+            Warning::CronIgnores => "CronIgnores",
+            Warning::CronDiffers => "CronDiffers",
+            Warning::NoUser => "NoUser",
+            Warning::TimerRejected => "TimerRejected",
+            Warning::UnitIgnored => "UnitIgnored",
+            Warning::LineEnd => "LineEnd",
         }
     }
 }

@@ -1,11 +1,11 @@
 //! Functions that append a finding to those before it.
 
-ghost use Rattle.std.specs.Prelude.{◌≡◌, ◌<◌, ◌++◌, ◌∷◌, [], IfOk, IfSome, IsOk, None, OnOk, Some, vec_capacity, vec_len};
-ghost use Rattle.plan_check.specs.Finding.{finding_at, found_if};
+ghost use Rattle.std.specs.Prelude.{◌≡◌, ◌<◌, ◌++◌, ◌∷◌, [], IfOk, IfSome, IsOk, None, OnOk, Some, option_map, vec_capacity, vec_len};
+ghost use Rattle.plan_check.specs.Finding.{detailed_if, error_at, finding_at, found_if, found_with};
 ghost use Rattle.plan_check.specs.Known.{after_job, job_findings, name_fault, name_quote};
 ghost use Rattle.plan_check.specs.declared.finding.FindingKind.TheVariants as kind;
 
-use crate::finding::{Finding, FindingKind};
+use crate::finding::{Finding, FindingKind, Warning};
 use crate::known::Known;
 use plan_rules::{Job, LineCause};
 use plan_texts::Text;
@@ -22,7 +22,12 @@ pub(crate) fn add_if(
 {
     if is_so {
         let quote = None;
-        found.push(Finding { line, kind, quote })?;
+        found.push(Finding {
+            line,
+            kind,
+            quote,
+            detail: None,
+        })?;
     }
     Ok(())
 }
@@ -40,21 +45,104 @@ pub(crate) fn add_quoting_if(
 {
     if is_so {
         let quote = Some(kept(alloc, quote)?);
-        found.push(Finding { line, kind, quote })?;
+        found.push(Finding {
+            line,
+            kind,
+            quote,
+            detail: None,
+        })?;
     }
     Ok(())
 }
 
-// Adds that a line is rejected, or the whole file, which is line 0.
-pub(crate) fn reject(
+// Adds a finding of a line, or of the whole file, which is line 0, if there is something that its message ends with.
+pub(crate) fn add_detailed(
+    found: &mut Vec<Finding>,
+    line: u32,
+    kind: FindingKind,
+    quote: Option<Text>,
+    detail: Option<Text>,
+) -> Result<(), AllocError>
+    ensures { OnOk result (found.new.items ≡ found.old.items
+        ++ found_with detail line kind quote) }
+{
+    if let Some(detail) = detail {
+        found.push(Finding {
+            line,
+            kind,
+            quote,
+            detail: Some(detail),
+        })?;
+    }
+    Ok(())
+}
+
+// Adds a finding of a line, or of the whole file, which is line 0, whose message quotes a text, if there is something that
+// the message ends with.
+pub(crate) fn add_quoting_with(
+    alloc: Global,
+    found: &mut Vec<Finding>,
+    line: u32,
+    warning: Warning,
+    quote: &str,
+    detail: Option<Text>,
+) -> Result<(), AllocError>
+    ensures { OnOk result (found.new.items ≡ found.old.items
+        ++ found_with detail line (kind.Warned warning) (Some quote.now)) }
+{
+    if let Some(detail) = detail {
+        let quote = Some(kept(alloc, quote)?);
+        found.push(Finding {
+            line,
+            kind: FindingKind::Warned(warning),
+            quote,
+            detail: Some(detail),
+        })?;
+    }
+    Ok(())
+}
+
+// Adds a finding of a line, or of the whole file, which is line 0, whose message ends with a text, if `is_so`.
+pub(crate) fn add_detailed_if(
+    alloc: Global,
+    found: &mut Vec<Finding>,
+    is_so: bool,
+    line: u32,
+    kind: FindingKind,
+    detail: &str,
+) -> Result<(), AllocError>
+    ensures { OnOk result (found.new.items ≡ found.old.items ++ detailed_if is_so line kind detail.now) }
+{
+    if is_so {
+        let detail = Some(kept(alloc, detail)?);
+        found.push(Finding {
+            line,
+            kind,
+            quote: None,
+            detail,
+        })?;
+    }
+    Ok(())
+}
+
+// Adds an error of a line, with the text that its message quotes, and what the message ends with.
+pub(crate) fn add_error(
     found: &mut Vec<Finding>,
     line: u32,
     cause: LineCause,
     quote: Option<Text>,
+    detail: Option<Text>,
 ) -> Result<(), AllocError>
-    ensures { OnOk result (found.new.items ≡ found.old.items ++ finding_at line (kind.Rejected cause) quote ∷ []) }
+    ensures { OnOk result (found.new.items ≡ found.old.items ++ error_at line cause quote detail ∷ []) }
 {
-    add(found, line, FindingKind::Rejected(cause), quote)
+    let kind = FindingKind::Rejected(cause);
+    found.push(Finding {
+        line,
+        kind,
+        quote,
+        detail,
+    })?;
+    Ok(())
 }
 
 // Adds a finding of a line, or of the whole file, which is line 0.
@@ -68,7 +156,12 @@ fn add(
     // If there is room for it, no memory is requested.
     ensures at_once { vec_len found.old < vec_capacity found.old → IsOk result }
 {
-    found.push(Finding { line, kind, quote })?;
+    found.push(Finding {
+        line,
+        kind,
+        quote,
+        detail: None,
+    })?;
     Ok(())
 }
 
@@ -120,7 +213,12 @@ pub(crate) fn add_name_fault(
 {
     if let Some(kind) = known.name_fault(name) {
         let quote = name_quote(alloc, name, kind)?;
-        found.push(Finding { line, kind, quote })?;
+        found.push(Finding {
+            line,
+            kind,
+            quote,
+            detail: None,
+        })?;
     }
     Ok(())
 }
@@ -132,6 +230,19 @@ fn name_quote(alloc: Global, name: &str, kind: FindingKind) -> Result<Option<Tex
     match kind {
         FindingKind::SameName => Ok(Some(kept(alloc, name)?)),
         _ => Ok(None),
+    }
+}
+
+// Returns a text that keeps a hint, if there is one.
+pub(crate) fn kept_hint(
+    alloc: Global,
+    hint: Option<&'static str>,
+) -> Result<Option<Text>, AllocError>
+    ensures { IfOk result (λ text. text ≡ option_map (λ hint. hint.now) hint.entry) }
+{
+    match hint {
+        Some(hint) => Ok(Some(kept(alloc, hint)?)),
+        None => Ok(None),
     }
 }
 

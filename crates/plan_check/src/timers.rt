@@ -1,31 +1,36 @@
 //! The findings of the text of a timer file (systemd.timer(5)).
 
-ghost use Rattle.std.specs.Prelude.{◌≡◌, ◌++◌, ◌∷◌, ◌&&◌, [], if◌then◌else◌, false, IfOk, OnOk, Ok, map, option_map};
+ghost use Rattle.std.specs.Prelude.{◌≡◌, ◌≤◌, ◌++◌, ◌∷◌, ◌&&◌, [], if◌then◌else◌, length, IfOk, OnOk, Ok, map, option_map};
+ghost use Rattle.std.specs.List.{cons_option};
 ghost use Rattle.plan_match.specs.Zone.{rule_in};
 ghost use Rattle.plan_match.specs.declared.rule.Rule.TheVariants as rule;
-ghost use Rattle.plan_rules.specs.Timer.{has_timer, is_timer_name, settings_from, timer_job, timer_setting};
-ghost use Rattle.plan_rules.specs.TimerDelays.{delays_with, last_span, random_key};
-ghost use Rattle.plan_rules.specs.TimerEntries.{draft_after, draft_of, held_after, line_in, line_shown, lines_draft, no_lines, shown_line, state_after, timer_lines};
-ghost use Rattle.plan_check.specs.Context.{delays_by};
+ghost use Rattle.plan_rules.specs.Timer.{is_timer_name, timer_job, timer_setting};
+ghost use Rattle.plan_rules.specs.TimerEntries.{draft_after, draft_of, line_in, line_shown, lines_draft, no_lines, shown_line, state_after, timer_lines};
 ghost use Rattle.plan_check.specs.Known.{after_job, after_other, job_findings};
-ghost use Rattle.plan_check.specs.Settings.{is_monotonic, last_delay};
-ghost use Rattle.plan_check.specs.Timers.{after_timer, event_quote, event_warnings, is_only_monotonic, line_findings, lines_findings, read_findings, setting_findings, step_findings, timer_findings, timer_warnings};
+ghost use Rattle.plan_check.specs.TimerWarnings.{timer_text};
+ghost use Rattle.plan_check.specs.Timers.{after_timer, difference_findings, event_quote, event_warnings, has_changes, is_only_monotonic, line_findings, lines_findings, read_findings, setting_findings, step_findings, stop_in, timer_findings};
+ghost use Rattle.plan_texts.specs.Limits.{most_bytes};
 ghost use Rattle.plan_check.specs.Warnings.{never_starts};
 
 use crate::context::TimerContext;
 use crate::finding::{Finding, FindingKind, Warning};
 use crate::known::Known;
-use crate::report::{add_all, add_if, add_job, add_name_fault, add_quoting_if, kept, reject};
+use crate::report::{
+    add_all, add_error, add_if, add_job, add_name_fault, add_quoting_if, add_quoting_with, kept,
+    kept_hint,
+};
 use crate::settings::{Standing, delay_after, is_bad_delay, is_unknown_key, value_of};
-use crate::skipped::may_skip_starts;
+use crate::timer_warnings::{TimerText, add_timer_warnings};
 use plan_clock::Clock;
 use plan_next::next_from;
 use plan_rules::{
     Calendar, EventZones, Events, LineCause, LineFault, Rule, TimerDraft, TimerLine, TimerReader,
     is_timer_name, text_of, timer_job,
 };
+use plan_systemd::{EventDifferences, event_differences, event_hint};
 use plan_texts::Text;
 use plan_texts::whole_lines::{WholeLine, whole_lines};
+use plan_triggers::{TimerSetting, has_bad_header, is_bad_unit};
 use std::alloc::{AllocError, Global};
 
 // Adds the findings of a timer's text, and its job, in this context.
@@ -38,16 +43,16 @@ pub(crate) fn add_timer(
     context: &TimerContext,
 ) -> Result<(), AllocError>
     ensures found { OnOk result (found.new.items ≡ found.old.items
-        ++ timer_findings context.now known.old name.now (timer_lines bytes.now)) }
+        ++ timer_findings context.now known.old name.now bytes.now (timer_lines bytes.now)) }
     ensures known { OnOk result (known.new ≡ after_timer context.now known.old name.now (timer_lines bytes.now)) }
 {
     match text_of(bytes) {
         Ok(text) => {
             let lines = whole_lines(alloc, text)?;
-            add_lines(alloc, known, found, name, lines.as_slice(), context)
+            add_lines(alloc, known, found, name, text, lines.as_slice(), context)
         }
         Err(LineFault { line, cause }) => {
-            reject(found, line, cause, None)?;
+            add_error(found, line, cause, None, None)?;
             add_name_fault(alloc, known, found, 0, name)?;
             known.add_other(alloc, name)
         }
@@ -79,53 +84,42 @@ fn are_only_monotonic(alloc: Global, lines: &[WholeLine]) -> Result<bool, AllocE
 {
     let context = TimerContext::new(EventZones::utc_alone());
     let mut found = Vec::new(alloc);
-    let (reader, standing, _, _) = read_lines(alloc, &mut found, &None, lines, &context)?;
-    Ok(reader.held() == 0 && standing.monotonic)
+    let (read, _) = read_lines(alloc, &mut found, &None, lines, &context)?;
+    Ok(read.reader.held() == 0 && read.standing.monotonic)
 }
 
-// Adds the findings of the whole file, whose lines are given, then those of its lines, and then its job.
+// Adds the findings of the whole file, whose text and lines are given, then those of its lines, and then its job.
 fn add_lines(
     alloc: Global,
     known: &mut Known,
     found: &mut Vec<Finding>,
     name: &str,
+    text: &str,
     lines: &[WholeLine],
     context: &TimerContext,
 ) -> Result<(), AllocError>
+    requires { length text.now ≤ most_bytes }
     ensures found { OnOk result (found.new.items ≡ found.old.items
-        ++ timer_findings context.now known.old name.now (Ok (map shown_line lines.now))) }
+        ++ timer_findings context.now known.old name.now text.now (Ok (map shown_line lines.now))) }
     ensures known { OnOk result (known.new ≡ after_timer context.now known.old name.now (Ok (map shown_line lines.now))) }
 {
     let mut later = Vec::new(alloc);
-    let (reader, standing, delay, draft) = read_lines(
-        alloc,
-        &mut later,
-        known.clock(),
-        lines,
-        context,
-    )?;
+    let (read, draft) = read_lines(alloc, &mut later, known.clock(), lines, context)?;
+    let has_section = read.reader.has_section();
     let missing = FindingKind::Rejected(LineCause::NoTimerSection);
-    add_if(found, !reader.has_section(), 0, missing)?;
+    add_if(found, !has_section, 0, missing)?;
     let mut warnings = Vec::new(alloc);
     add_timer_warnings(
         alloc,
         &mut warnings,
         known.clock(),
-        &reader,
-        standing,
-        delay,
-        lines,
-    )?;
-    let delay = standing.delays.seconds();
-    add_timer_job(
-        alloc,
-        known,
-        found,
         name,
-        reader.has_section(),
-        draft,
-        delay,
+        text,
+        &read,
+        &draft,
     )?;
+    let delay = read.standing.delays.seconds();
+    add_timer_job(alloc, known, found, name, has_section, draft, delay)?;
     add_all(found, warnings)?;
     add_all(found, later)
 }
@@ -152,62 +146,53 @@ fn add_timer_job(
     known.add_other(alloc, name)
 }
 
-// Adds the warnings on the whole file with these lines, if there is a clock. The random delay is given as it was written.
-fn add_timer_warnings(
-    alloc: Global,
-    found: &mut Vec<Finding>,
-    clock: &Option<Clock>,
-    reader: &TimerReader<'_>,
-    standing: Standing,
-    delay: &str,
-    lines: &[WholeLine],
-) -> Result<(), AllocError>
-    requires section { reader.now.found ≡ has_timer (map shown_line lines.now) }
-    requires held { reader.now.count.held ≡ held_after (map shown_line lines.now) }
-    requires monotonic { standing.monotonic ≡ is_monotonic (settings_from false (map shown_line lines.now)) }
-    requires random { standing.delays.random ≡ last_span random_key 0 (settings_from false (map shown_line lines.now)) }
-    requires delay { delay.now ≡ last_delay (settings_from false (map shown_line lines.now)) }
-    ensures { OnOk result (found.new.items ≡ found.old.items ++ timer_warnings clock.now (map shown_line lines.now)) }
-{
-    if clock.is_none() {
-        return Ok(());
-    }
-    let empty = FindingKind::Warned(Warning::NoEvents);
-    add_if(found, reader.has_section() && reader.held() == 0, 0, empty)?;
-    let monotonic = FindingKind::Warned(Warning::Monotonic);
-    add_if(found, standing.monotonic, 0, monotonic)?;
-    let delayed = FindingKind::Warned(Warning::Delayed);
-    add_quoting_if(alloc, found, standing.delays.random > 0, 0, delayed, delay)
-}
-
-// Adds the findings of lines, in order. Returns the reader after the last line, what stands then, the random delay as
-// it was written, and what the lines say of the job.
+// Adds the findings of lines, in order. Returns what the lines say.
 fn read_lines<'z, 'l>(
     alloc: Global,
     found: &mut Vec<Finding>,
     clock: &Option<Clock>,
     lines: &'l [WholeLine],
     context: &'z TimerContext,
-) -> Result<(TimerReader<'z>, Standing, &'l str, TimerDraft), AllocError>
-    ensures section { IfOk result (λ read. read.0.found ≡ has_timer (map shown_line lines.now)) }
-    ensures held { IfOk result (λ read. read.0.count.held ≡ held_after (map shown_line lines.now)) }
-    ensures monotonic { IfOk result (λ read. read.1.monotonic ≡ is_monotonic (settings_from false (map shown_line lines.now))) }
-    ensures delays { IfOk result (λ read. read.1.delays ≡ delays_with (delays_by context.now.accuracy) (settings_from false (map shown_line lines.now))) }
-    ensures delay { IfOk result (λ read. read.2.now ≡ last_delay (settings_from false (map shown_line lines.now))) }
-    ensures draft { IfOk result (λ read. draft_of read.3 ≡ lines_draft context.now.zones (map shown_line lines.now)) }
+) -> Result<(TimerText<'z, 'l>, TimerDraft), AllocError>
+    ensures read { IfOk result (λ read. read.0 ≡ timer_text context.now.accuracy (map shown_line lines.now)) }
+    ensures draft { IfOk result (λ read. draft_of read.1 ≡ lines_draft context.now.zones (map shown_line lines.now)) }
     ensures found { OnOk result (found.new.items ≡ found.old.items ++ lines_findings clock.now (no_lines context.now.zones) (map shown_line lines.now)) }
 {
     let mut reader = TimerReader::new(&context.zones);
     let mut standing = Standing::new(context.accuracy);
     let mut delay = "";
     let mut draft = TimerDraft::new(alloc);
+    let mut settings = Vec::new(alloc);
     for line in lines {
         let setting = reader.setting(line);
         standing = standing.after(setting);
         delay = delay_after(delay, setting);
+        keep_setting(&mut settings, setting)?;
         add_line(alloc, &mut reader, &mut draft, found, clock, line, setting)?;
     }
-    Ok((reader, standing, delay, draft))
+    let has_bad_header = has_bad_header(lines);
+    let read = TimerText {
+        has_bad_header,
+        reader,
+        standing,
+        delay,
+        settings,
+    };
+    Ok((read, draft))
+}
+
+// Adds a setting to others, if there is one.
+fn keep_setting<'l>(
+    settings: &mut Vec<TimerSetting<'l>>,
+    setting: Option<(&'l str, &'l str)>,
+) -> Result<(), AllocError>
+    ensures { OnOk result (settings.new.items ≡ settings.old.items
+        ++ cons_option (option_map (λ setting. (setting.0.now, setting.1.now)) setting.entry) []) }
+{
+    if let Some((key, value)) = setting {
+        settings.push(TimerSetting::new(key, value))?;
+    }
+    Ok(())
 }
 
 // Adds the findings of a line with its setting, if it has one, and what it says of the job.
@@ -275,7 +260,10 @@ fn add_setting(
             add_quoting_if(alloc, found, is_unknown, line, unknown, key)?;
             let is_bad = clock.is_some() && is_bad_delay(key, value);
             let bad = FindingKind::Warned(Warning::BadDelay);
-            add_quoting_if(alloc, found, is_bad, line, bad, value)
+            add_quoting_if(alloc, found, is_bad, line, bad, value)?;
+            let is_ignored = clock.is_some() && is_bad_unit(key, value);
+            let ignored = FindingKind::Warned(Warning::UnitIgnored);
+            add_quoting_if(alloc, found, is_ignored, line, ignored, value)
         }
         None => Ok(()),
     }
@@ -296,7 +284,8 @@ fn add_event(
         Ok(event) => add_event_warnings(alloc, found, clock, line, text, event),
         Err(cause) => {
             let quote = event_quote(alloc, text, *cause)?;
-            reject(found, line, *cause, quote)
+            let hint = kept_hint(alloc, event_hint(text))?;
+            add_error(found, line, *cause, quote, hint)
         }
     }
 }
@@ -325,12 +314,54 @@ fn add_event_warnings(
     let Some(clock) = clock else {
         return Ok(());
     };
-    let may_skip = may_skip_starts(alloc, text, event)?;
+    let differences = event_differences(alloc, text, event)?;
     let never_starts = event_never_starts(alloc, clock, event)?;
     let never = FindingKind::Warned(Warning::NeverStarts);
     add_if(found, never_starts, line, never)?;
+    add_differences(
+        alloc,
+        found,
+        line,
+        text,
+        differences,
+        has_changes(clock, event),
+    )
+}
+
+// Adds how systemd reads an event with this text otherwise. The event's clock may have changes.
+fn add_differences(
+    alloc: Global,
+    found: &mut Vec<Finding>,
+    line: u32,
+    text: &str,
+    differences: EventDifferences,
+    has_changes: bool,
+) -> Result<(), AllocError>
+    ensures { OnOk result (found.new.items ≡ found.old.items ++ difference_findings line text.now
+        differences.rejected differences.from_end differences.skips (stop_in has_changes differences.stops)) }
+{
+    let EventDifferences {
+        rejected,
+        from_end,
+        skips,
+        stops,
+    } = differences;
+    add_quoting_with(alloc, found, line, Warning::SystemdRejects, text, rejected)?;
+    add_quoting_with(alloc, found, line, Warning::RangeFromEnd, text, from_end)?;
     let skipped = FindingKind::Warned(Warning::SkippedStarts);
-    add_quoting_if(alloc, found, may_skip, line, skipped, text)
+    add_quoting_if(alloc, found, skips, line, skipped, text)?;
+    let stops = if has_changes { stops } else { None };
+    add_quoting_with(alloc, found, line, Warning::MayStop, text, stops)
+}
+
+// Returns whether the clock of an event has changes, in the zone of a clock.
+fn has_changes(clock: &Clock, event: &Calendar) -> bool
+    ensures { result ≡ has_changes clock.now event.now }
+{
+    if event.names_zone {
+        return !event.clock.is_utc();
+    }
+    !clock.is_utc()
 }
 
 // Returns whether a job with only this event never starts from 1970 to 2999, by the clock of a zone.

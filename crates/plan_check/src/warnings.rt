@@ -1,51 +1,55 @@
 //! The warnings on the lines of crontabs, and on events that never start.
 
-ghost use Rattle.std.specs.Prelude.{◌≡◌, ◌++◌, ◌<◌, ◌&&◌, IfOk, IsOk, None, OnOk, is_some, length};
+ghost use Rattle.std.specs.Prelude.{◌≡◌, ◌++◌, IfOk, IsOk, None, OnOk};
 ghost use Rattle.std.specs.List.{list_any};
 ghost use Rattle.std.specs.Str.{bytes_eq};
 ghost use Rattle.plan_match.specs.Zone.{rule_in};
-ghost use Rattle.plan_check.specs.declared.finding.Warning.TheVariants as warning;
-ghost use Rattle.plan_check.specs.declared.finding.FindingKind.TheVariants as kind;
-ghost use Rattle.plan_check.specs.Finding.{found_if};
-ghost use Rattle.plan_check.specs.Warnings.{command_warnings, ends_with_return, has_bare_percent, is_bare_percent, is_either_day, is_reboot, is_zone_setting, job_warnings, never_starts, rule_warnings, warnings_by, zone_names};
+ghost use Rattle.plan_check.specs.Warnings.{command_warnings, ends_with_return, is_either_day, is_reboot, is_zone_setting, job_warnings, never_starts, rule_warnings, setting_warnings, warnings_by, zone_names};
 
+use crate::cron_warnings::{add_cron_warnings, add_fault_warnings};
 use crate::finding::{Finding, FindingKind, Warning};
 use crate::report::add_if;
 use plan_clock::Clock;
+use plan_cron::has_bare_percent;
 use plan_next::next_from;
-use plan_rules::{Job, Rule};
+use plan_rules::{Job, Kind, Rule};
 use plan_texts::whole_lines::trimmed;
 use std::alloc::{AllocError, Global};
 
-// Adds the warnings on the job of a line, if there is a clock.
+// Adds the warnings on the job of a line with a text, if there is a clock.
 pub(crate) fn add_warnings(
     alloc: Global,
     found: &mut Vec<Finding>,
     clock: &Option<Clock>,
+    kind: Kind,
     line: u32,
+    text: &str,
     job: &Job,
 ) -> Result<(), AllocError>
-    ensures warnings { OnOk result (found.new.items ≡ found.old.items ++ warnings_by clock.now line job.now) }
+    ensures warnings { OnOk result (found.new.items ≡ found.old.items ++ warnings_by clock.now kind line text.now job.now) }
     ensures at_once { clock.now ≡ None → IsOk result }
 {
     match clock {
-        Some(clock) => add_job_warnings(alloc, found, clock, line, job),
+        Some(clock) => add_job_warnings(alloc, found, clock, kind, line, text, job),
         None => Ok(()),
     }
 }
 
-// Adds the warnings on the job of a line.
+// Adds the warnings on the job of a line with a text.
 fn add_job_warnings(
     alloc: Global,
     found: &mut Vec<Finding>,
     clock: &Clock,
+    kind: Kind,
     line: u32,
+    text: &str,
     job: &Job,
 ) -> Result<(), AllocError>
-    ensures { OnOk result (found.new.items ≡ found.old.items ++ job_warnings clock.now line job.now) }
+    ensures { OnOk result (found.new.items ≡ found.old.items ++ job_warnings clock.now kind line text.now job.now) }
 {
     add_rule_warnings(alloc, found, clock, line, job.rule())?;
-    add_command_warnings(found, line, job.command())
+    add_command_warnings(found, line, job.command())?;
+    add_cron_warnings(alloc, found, kind, line, text, job)
 }
 
 // Adds the warnings on the rule of a line.
@@ -104,21 +108,6 @@ fn is_either_day(rule: &Rule) -> bool
     }
 }
 
-// Returns whether a command has a `%` that follows no backslash.
-fn has_bare_percent(command: &[u8]) -> bool
-    ensures { result ≡ has_bare_percent command.now }
-{
-    (0..command.len()).any(|i| is_bare_percent(command, i))
-}
-
-// Returns whether the byte at a position is a `%` that follows no backslash.
-fn is_bare_percent(command: &[u8], i: usize) -> bool
-    requires { i < length command.now }
-    ensures { result ≡ is_bare_percent command.now i }
-{
-    command[i] == b'%' && (i == 0 || command[i - 1] != b'\\')
-}
-
 // Returns whether a command ends with a carriage return.
 fn ends_with_return(command: &[u8]) -> bool
     ensures { result ≡ ends_with_return command.now }
@@ -126,18 +115,19 @@ fn ends_with_return(command: &[u8]) -> bool
     command.ends_with(b"\r")
 }
 
-// Adds the warning on a line that is a setting or makes no job, if there is a clock.
-pub(crate) fn add_setting_warning(
+// Adds the warnings on a line that makes no job, if there is a clock.
+pub(crate) fn add_setting_warnings(
+    alloc: Global,
     found: &mut Vec<Finding>,
     clock: &Option<Clock>,
     line: u32,
     text: &str,
 ) -> Result<(), AllocError>
-    ensures { OnOk result (found.new.items ≡ found.old.items
-        ++ found_if (is_some clock.now && is_zone_setting text.now) line (kind.Warned warning.ZoneSetting) None) }
+    ensures { OnOk result (found.new.items ≡ found.old.items ++ setting_warnings clock.now line text.now) }
 {
     let zone = FindingKind::Warned(Warning::ZoneSetting);
-    add_if(found, clock.is_some() && is_zone_setting(text), line, zone)
+    add_if(found, clock.is_some() && is_zone_setting(text), line, zone)?;
+    add_fault_warnings(alloc, found, clock, line, text)
 }
 
 // Returns whether a line sets the zone of a crontab.

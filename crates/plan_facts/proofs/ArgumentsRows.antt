@@ -22,6 +22,12 @@ use Rattle.agenda_arguments.specs.declared.ask.MachineQuestion.TheVariants as qu
 use Rattle.agenda_arguments.specs.declared.ask.PlanRequest.{PlanRequest}
 use Rattle.agenda_arguments.specs.declared.ask.SpanRequest.{SpanRequest}
 use Rattle.agenda_arguments.specs.declared.ask.ZonesRequest.{ZonesRequest}
+use Rattle.agenda_codes.specs.Codes.{all_codes, code_named}
+use Rattle.agenda_codes.specs.declared.Code.{Code}
+use Rattle.agenda_codes.specs.declared.Code.TheVariants.{Merged, Percent, Zone}
+use Rattle.agenda_policy.specs.declared.Policy.{Policy}
+use Rattle.agenda_policy.specs.Policy.{neutral}
+use Rattle.agenda_policy.specs.Reading.{policy_reading}
 use Rattle.agenda_sources.specs.declared.Asked.{Asked}
 use Rattle.agenda_sources.specs.declared.Asked.TheVariants.{Cron, Event}
 use Rattle.plan_rules.specs.declared.SourceKind.TheVariants.{Crontab, System, CronD, Spool, Timer}
@@ -169,7 +175,7 @@ quiet_rows : RowsHold asked_in
 unfolding words asked_by clap_on_literals agenda_on_literals
 quiet_rows = refl
 
--- ---- upcoming, check, steps and help
+-- ---- upcoming, steps and help
 
 -- the next start of each job after `t`
 abbrev upcomings : JobsRequest → Result Ask ArgumentsFault
@@ -184,8 +190,6 @@ other_rows : RowsHold asked_in
     ∷ (codes "agenda upcoming --after t --event-zones", upcomings (record (jobs_from []) { zones = zones_from None true }))
     ∷ (codes "agenda upcoming --after t --delays", upcomings (record (jobs_from []) { delays = true }))
     ∷ (codes "agenda upcoming --json --after t --local", upcomings (record (jobs_from []) { format = format_from true true }))
-    ∷ (codes "agenda check --event-zones a", Ok (Check (zones_from None true) (timer (codes "a") ∷ []) false))
-    ∷ (codes "agenda check --json a", Ok (Check in_utc (timer (codes "a") ∷ []) true))
     ∷ (codes "agenda steps a/b", Ok (Steps (codes "a/b")))
     -- help comes before missing options
     ∷ (codes "agenda next --help", Err wants_help)
@@ -194,7 +198,31 @@ other_rows : RowsHold asked_in
 unfolding words asked_by clap_on_literals agenda_on_literals
 other_rows = refl
 
+-- ---- check
+
+-- these warnings are errors, and these are left out
+abbrev policy_from : (denies_all : Bool) → (denied allowed : List Code) → Policy
+policy_from denies_all denied allowed = record { denies_all = denies_all; denied = denied; allowed = allowed }
+
+check_rows : RowsHold asked_in
+    ((codes "agenda check --event-zones a", Ok (Check (zones_from None true) (timer (codes "a") ∷ []) neutral false))
+    ∷ (codes "agenda check --json a", Ok (Check in_utc (timer (codes "a") ∷ []) neutral true))
+    ∷ (codes "agenda check --deny all --allow percent --allow=Merged", Ok (Check in_utc [] (policy_from true [] (Percent ∷ Merged ∷ [])) false))
+    -- an error may be denied, which it is already, but not allowed
+    ∷ (codes "agenda check --deny Zone --deny Percent", Ok (Check in_utc [] (policy_from false (Zone ∷ Percent ∷ []) []) false))
+    ∷ (codes "agenda check --allow Zone", Err is_usage)
+    ∷ (codes "agenda check --allow all", Err is_usage)
+    ∷ (codes "agenda check --deny percnt", Err is_usage)
+    ∷ (codes "agenda check --deny Percent --allow Percent", Err is_usage)
+    ∷ [])
+unfolding words asked_by policy_reading code_named all_codes clap_on_literals agenda_on_literals
+check_rows = refl
+
 -- ---- machine
+
+-- a check of a machine without `--deny` and `--allow`
+abbrev asks_check : (zone : Option (List ℕ)) → (json : Bool) → MachineQuestion
+asks_check zone json = question.Check (record { zone = zone; policy = neutral; json = json })
 
 abbrev asks_machine : (root : List ℕ) → (all : Bool) → MachineQuestion → Result Ask ArgumentsFault
 asks_machine root all asked = Ok (Machine (record { root = root; all = all; question = asked }))
@@ -204,17 +232,17 @@ machine_rows : RowsHold asked_in
     ((codes "agenda machine sources", asks_machine (codes "/") false (question.Sources false))
     ∷ (codes "agenda machine sources --json --root r", asks_machine (codes "r") false (question.Sources true))
     ∷ (codes "agenda machine sources --all --root=/r", asks_machine (codes "/r") true (question.Sources false))
-    ∷ (codes "agenda machine check", asks_machine (codes "/") false (question.Check None false))
+    ∷ (codes "agenda machine check", asks_machine (codes "/") false (asks_check None false))
     ∷ (
       codes "agenda machine check --zone z --root r --json --all",
-      asks_machine (codes "r") true (question.Check (Some (codes "z")) true),
+      asks_machine (codes "r") true (asks_check (Some (codes "z")) true),
     )
     -- `--utc` is `--zone UTC`
-    ∷ (codes "agenda machine check --utc", asks_machine (codes "/") false (question.Check (Some (codes "UTC")) false))
+    ∷ (codes "agenda machine check --utc", asks_machine (codes "/") false (asks_check (Some (codes "UTC")) false))
     ∷ (codes "agenda machine --help", Err wants_help)
     ∷ (codes "agenda machine check --zone z --utc --help", Err wants_help)
     ∷ [])
-unfolding words asked_by clap_on_literals agenda_on_literals
+unfolding words asked_by policy_reading clap_on_literals agenda_on_literals
 machine_rows = refl
 
 -- what is made of a machine's jobs, in the zone of the machine, in local times, and as a table on a terminal

@@ -42,8 +42,8 @@ impl Component {
         }
     }
 
-    // Returns the minimum value of the component.
-    fn lowest(self) -> u16
+    /// Returns the minimum value of the component.
+    pub fn lowest(self) -> u16
         ensures { result ≡ least_of self }
     {
         match self {
@@ -53,8 +53,8 @@ impl Component {
         }
     }
 
-    // Returns the maximum value of the component.
-    fn highest(self) -> u16
+    /// Returns the maximum value of the component.
+    pub fn highest(self) -> u16
         ensures { result ≡ greatest_of self }
     {
         match self {

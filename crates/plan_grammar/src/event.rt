@@ -169,7 +169,7 @@ fn zoneless(alloc: Global, words: &[&[u8]]) -> Result<Calendar, RuleFault>
     let [word] = words else {
         return spelled_out(alloc, words);
     };
-    if let Some(expression) = expression(word) {
+    if let Some(expression) = expression_of(word) {
         return event_of_expression(alloc, expression);
     }
     if is_unknown_word(word) {
@@ -189,9 +189,9 @@ fn event_of_expression(alloc: Global, expression: &[u8]) -> Result<Calendar, Rul
     spelled_out(alloc, words.as_slice())
 }
 
-// Returns the expression that a word abbreviates. Upper and lower case are the same.
+/// Returns the expression that a word such as `daily` abbreviates. Upper and lower case are the same.
 #[tactic(auto, unfolding(crate::specs::Event::expression_of))]
-fn expression(word: &[u8]) -> Option<&'static [u8]>
+pub fn expression_of(word: &[u8]) -> Option<&'static [u8]>
     ensures { option_map (λ text. text.now) result ≡ expression_of word.now }
 {
     if word.eq_ignore_ascii_case(b"minutely") {
@@ -268,8 +268,8 @@ fn weekdays_if_given(alloc: Global, text: Option<&[u8]>) -> Result<Option<ValueS
     Ok(Some(weekdays(alloc, text)?))
 }
 
-// Returns the component that reads the days: they count from the start or from the end of the month.
-pub(crate) fn day_component(count: DayCount) -> Component
+/// Returns the component that reads the days: they count from the start or from the end of the month.
+pub fn day_component(count: DayCount) -> Component
     ensures { result ≡ day_component count }
 {
     match count {

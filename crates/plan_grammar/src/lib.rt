@@ -17,8 +17,9 @@ mod places;
 mod shape;
 mod weekdays;
 
+pub use component::Component;
 pub use cron::{cron_rule, rule_in_front};
-pub use event::{calendar_event, calendar_rule, zone_name};
+pub use event::{calendar_event, calendar_rule, day_component, expression_of, zone_name};
 pub use event_zones::{EventZones, NamedZone};
 pub use fault::{RuleCause, RuleFault};
-pub use items::{EventItems, event_items};
+pub use items::{ComponentElements, EventItems, event_items};

@@ -6,5 +6,6 @@ pub mod Cron
 pub mod Spool
 pub mod Daemon
 pub mod Others
+pub mod Ignored
 pub mod Machine
 pub mod Zone

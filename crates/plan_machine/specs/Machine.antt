@@ -2,6 +2,7 @@
 use Rattle.std.specs.Prelude.{◌≡◌, ℕ, Bool, if◌then◌else◌, List, [], ◌∷◌, ◌++◌, map, Option, None, Some, codes}
 use Rattle.std.specs.List.{list_any}
 use Rattle.std.specs.Str.{bytes_eq}
+use Rattle.plan_owners.specs.declared.daemon.CronDaemon.{CronDaemon}
 use Rattle.plan_rules.specs.declared.source_kind.SourceKind.TheVariants.{Timer}
 use Rattle.plan_timers.specs.declared.reports.NotPlanned.{NotPlanned}
 use Rattle.plan_timers.specs.declared.reports.Skipped.{Skipped}
@@ -17,16 +18,17 @@ use Rattle.plan_units.specs.Timers.{first_unit}
 use Rattle.plan_units.specs.Wants.{wants_of}
 use Rattle.plan_machine.specs.declared.machine.Machine.{Machine}
 use Rattle.plan_machine.specs.Cron.{crontabs_of}
-use Rattle.plan_machine.specs.Daemon.{lacks_cron_daemon}
+use Rattle.plan_machine.specs.Ignored.{KnownCron, cron_of}
 use Rattle.plan_machine.specs.Others.{anacron_jobs, at_jobs, user_timers}
 use Rattle.plan_machine.specs.Source.{SourceParts}
 
--- the sources, what is skipped, what isn't planned, and whether no program reads the crontabs
+-- the sources, what is skipped, what isn't planned, whether no program reads the crontabs, and which one does
 pub record FoundMachine : Type 0 where
   pub sources : List SourceParts
   pub skipped : List Skipped
   pub unplanned : List NotPlanned
   pub lacks_cron_daemon : Bool
+  pub cron_daemon : CronDaemon
 
 abbrev pub machine_view : Machine → FoundMachine
 machine_view machine =
@@ -35,6 +37,7 @@ machine_view machine =
       skipped = machine.skipped.items;
       unplanned = machine.unplanned.items;
       lacks_cron_daemon = machine.lacks_cron_daemon;
+      cron_daemon = machine.cron_daemon;
     }
 
 -- a timer is a source with the name of its job
@@ -45,9 +48,9 @@ abbrev pub option_list : Option NotPlanned → List NotPlanned
 option_list None = []
 option_list (Some other) = other ∷ []
 
--- what isn't planned: the table of anacron, these timers, the jobs of at, and the timers of users (agenda)
-abbrev pub unplanned_of : Held → List NotPlanned → List NotPlanned
-unplanned_of held timers = option_list (anacron_jobs held.node) ++ timers ++ at_jobs held ++ user_timers held
+-- what isn't planned: the table of anacron, these crontabs, these timers, the jobs of at, and the timers of users (agenda)
+abbrev pub unplanned_of : Held → (crontabs timers : List NotPlanned) → List NotPlanned
+unplanned_of held crontabs timers = option_list (anacron_jobs held.node) ++ crontabs ++ timers ++ at_jobs held ++ user_timers held
 
 -- what is said of something that is skipped (agenda)
 abbrev pub said : Skipped → List ℕ
@@ -72,13 +75,14 @@ abbrev pub with_new : List Skipped → Skipped → (is_new : Bool) → List Skip
 with_new once one is_new = if is_new then once ++ one ∷ [] else once
 
 -- what is found on a machine with these sources in crontabs, which come first, and these timers (agenda)
-abbrev pub machine_with : Held → List SourceParts → List Skipped → List TimerParts → List NotPlanned → Bool → FoundMachine
-machine_with held crontabs skipped timers others lacks_cron_daemon =
+abbrev pub machine_with : Held → List SourceParts → List Skipped → List TimerParts → List NotPlanned → KnownCron → FoundMachine
+machine_with held crontabs skipped timers others cron =
     record {
       sources = crontabs ++ map timer_source timers;
       skipped = skipped;
-      unplanned = unplanned_of held others;
-      lacks_cron_daemon = lacks_cron_daemon;
+      unplanned = unplanned_of held cron.ignored others;
+      lacks_cron_daemon = cron.lacks_daemon;
+      cron_daemon = cron.daemon;
     }
 
 -- what is found on a machine with these timers
@@ -86,7 +90,7 @@ abbrev pub machine_of : Held → List UnitDir → (most : ℕ) → FoundTimers �
 machine_of held dirs most timers =
     let crontabs = crontabs_of held most in
     machine_with held crontabs.found (distinct (crontabs.skipped ++ timers.skipped)) (planned held dirs timers.sources)
-    (not_planned held dirs timers.sources) (lacks_cron_daemon held.node crontabs.found)
+    (not_planned held dirs timers.sources) (cron_of held crontabs.found)
 
 -- what is found on a machine whose units are in these directories
 abbrev pub IsMachineOf : Held → List UnitDir → (all : Bool) → (most : ℕ) → Machine → Type 0

@@ -1,7 +1,7 @@
 //! The crontabs and timers of a machine, and what else starts jobs there.
 //!
 //! A machine is a tree of files. Read `source` and `machine` first, which say what is found, then `cron`. The timers are those
-//! of plan_timers.
+//! of plan_timers. `ignored` has the crontabs that cron ignores.
 #![tactic(auto)]
 
 mod collection;
@@ -9,6 +9,7 @@ mod cron;
 mod daemon;
 mod directories;
 mod files;
+mod ignored;
 mod machine;
 mod others;
 mod source;
@@ -20,6 +21,7 @@ pub use cron::crontabs;
 pub use daemon::{has_cron_daemon, lacks_cron_daemon};
 pub use machine::{Machine, find_machine};
 pub use others::{anacron_jobs, at_jobs, user_timers};
+pub use plan_owners::CronDaemon;
 pub use plan_timers::{NotPlanned, Skipped, Unplanned, Why};
 pub use source::MachineSource;
 pub use zone::{MachineZone, machine_zone};

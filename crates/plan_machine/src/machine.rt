@@ -5,9 +5,10 @@ ghost use Rattle.plan_timers.specs.Timers.{found_view};
 ghost use Rattle.plan_machine.specs.Machine.{AreTooManyUnits, IsMachine, distinct, machine_of, machine_view, machine_with, option_list, said, timer_source, unplanned_of, with_new};
 
 use crate::cron::crontabs;
-use crate::daemon::lacks_cron_daemon;
+use crate::ignored::{CronState, cron_of};
 use crate::others::{anacron_jobs, at_jobs, user_timers};
 use crate::source::MachineSource;
+use plan_owners::CronDaemon;
 use plan_rules::{Names, SourceKind};
 use plan_services::{PlannedTimers, planned_timers};
 use plan_timers::{NotPlanned, Skipped, TimerSource, TimersFound, copy_of, machine_timers};
@@ -22,10 +23,13 @@ pub struct Machine {
     pub sources: Vec<MachineSource>,
     /// What is skipped: of crontabs, then of timers.
     pub skipped: Vec<Skipped>,
-    /// What starts jobs but isn't planned: anacron, timers whose unit is missing or masked, at, timers of users.
+    /// What starts jobs but isn't planned: anacron, crontabs among the sources that cron ignores, timers whose unit can't start,
+    /// at, timers of users.
     pub unplanned: Vec<NotPlanned>,
     /// Whether crontabs are among the sources, but no program that reads crontabs is there.
     pub lacks_cron_daemon: bool,
+    /// The program that reads the crontabs.
+    pub cron_daemon: CronDaemon,
 }
 
 /// Returns what is found on a machine: its crontabs, and those of its timers that the boot reaches, or with `all` each one that
@@ -99,7 +103,7 @@ fn machine_of<T: Tree>(
         machine_view machine ≡ machine_of (T.held tree.now) dirs.now most (found_view timers)) }
 {
     let crontabs = crontabs(alloc, tree, most)?;
-    let lacks_cron_daemon = lacks_cron_daemon(alloc, tree, crontabs.found())?;
+    let cron = cron_of(alloc, tree, crontabs.found())?;
     let (sources, skipped) = crontabs.into_lists();
     let TimersFound {
         sources: timers,
@@ -107,7 +111,7 @@ fn machine_of<T: Tree>(
     } = timers;
     let skipped = all_skipped(alloc, skipped, more)?;
     let timers = planned_timers(alloc, tree, dirs, timers)?;
-    machine_with(alloc, tree, sources, skipped, timers, lacks_cron_daemon)
+    machine_with(alloc, tree, sources, skipped, timers, cron)
 }
 
 // Returns what is found on a machine with these sources in crontabs and these timers.
@@ -117,19 +121,25 @@ fn machine_with<T: Tree>(
     sources: Vec<MachineSource>,
     skipped: Vec<Skipped>,
     timers: PlannedTimers,
-    lacks_cron_daemon: bool,
+    cron: CronState,
 ) -> Result<Machine, AllocError>
     ensures { T.is_known ≡ true → IfOk result (λ machine. machine_view machine
-        ≡ machine_with (T.held tree.now) sources.items skipped.items timers.planned.items timers.others.items lacks_cron_daemon) }
+        ≡ machine_with (T.held tree.now) sources.items skipped.items timers.planned.items timers.others.items cron) }
 {
     let PlannedTimers { planned, others } = timers;
+    let CronState {
+        ignored,
+        lacks_daemon,
+        daemon,
+    } = cron;
     let sources = with_timers(alloc, sources, planned)?;
-    let unplanned = unplanned_of(alloc, tree, others)?;
+    let unplanned = unplanned_of(alloc, tree, ignored, others)?;
     Ok(Machine {
         sources,
         skipped,
         unplanned,
-        lacks_cron_daemon,
+        lacks_cron_daemon: lacks_daemon,
+        cron_daemon: daemon,
     })
 }
 
@@ -181,17 +191,20 @@ fn timer_source(alloc: Global, timer: TimerSource) -> Result<MachineSource, Allo
     Ok(MachineSource::new(SourceKind::Timer, name, parts))
 }
 
-// Returns what isn't planned on a machine, with these timers.
+// Returns what isn't planned on a machine, with these crontabs and these timers.
 fn unplanned_of<T: Tree>(
     alloc: Global,
     tree: &T,
+    crontabs: Vec<NotPlanned>,
     timers: Vec<NotPlanned>,
 ) -> Result<Vec<NotPlanned>, AllocError>
     ensures { T.is_known ≡ true → IfOk result (λ unplanned.
-        unplanned.items ≡ unplanned_of (T.held tree.now) timers.items) }
+        unplanned.items ≡ unplanned_of (T.held tree.now) crontabs.items timers.items) }
 {
+    let mut crontabs = crontabs;
     let mut timers = timers;
     let mut unplanned = list_of(alloc, anacron_jobs(alloc, tree)?)?;
+    unplanned.append(&mut crontabs)?;
     unplanned.append(&mut timers)?;
     let mut at = at_jobs(alloc, tree)?;
     unplanned.append(&mut at)?;

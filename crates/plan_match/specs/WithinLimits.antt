@@ -1,4 +1,4 @@
--- Rules whose sets have only values of their fields.
+-- Rules whose sets have values of their fields, and no others.
 use Rattle.std.specs.Prelude.{ℕ, IfSome, IsTrue}
 use Rattle.std.specs.Int.{IsInRange}
 use Rattle.std.specs.List.{All}
@@ -9,9 +9,10 @@ use Rattle.plan_match.specs.declared.event.Calendar.{Calendar}
 use Rattle.plan_match.specs.declared.rule.Rule.{Rule}
 use Rattle.plan_match.specs.declared.rule.Rule.TheVariants.{Cron, Events, Never}
 
--- each member of a set is in the range from the first value to the last
-abbrev pub LieWithin : ℕ → ℕ → SetOfValues → Type 0
-LieWithin first last values = (v : ℕ) → IsTrue (has_value values v) → IsInRange first last v
+-- each member of a set is in the range from the first value to the last, and there is one
+pub record LieWithin (first last : ℕ) (values : SetOfValues) : Type 0 where
+  pub within : (v : ℕ) → IsTrue (has_value values v) → IsInRange first last v
+  pub value : (v : ℕ) × IsTrue (has_value values v)
 
 -- the limits of the fields of a cron rule (crontab(5), fields); weekdays are from 0 for Sunday to 6
 pub record CronIsWithinLimits (rule : CronRule) : Type 0 where

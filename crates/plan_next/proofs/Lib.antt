@@ -1,3 +1,4 @@
+pub mod CloseLemmas
 pub mod EitherLemmas
 pub mod EventsLemmas
 pub mod FirstLemmas

@@ -1,3 +1,4 @@
+pub mod Close
 pub mod Next
 pub mod Piece
 pub mod Search

@@ -5,6 +5,7 @@
 //! head explains the names of functions. `search` has the jumps, and `piece` has what planners send.
 #![tactic(auto)]
 
+mod close;
 mod laws;
 mod minutes;
 mod month;
@@ -15,6 +16,7 @@ mod search;
 mod span;
 mod zone;
 
+pub use close::has_close_starts;
 pub use laws::starts_without_clock;
 pub use next::{next_from, next_start};
 pub use piece::{NoMemory, Piece, next_piece};

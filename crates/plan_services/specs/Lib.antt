@@ -1,4 +1,5 @@
 pub mod Texts
 pub mod Started
+pub mod Commands
 pub mod Planned
 pub mod Accuracy

@@ -1,11 +1,12 @@
 -- The timers whose units can start, and why the others aren't planned (systemd.timer(5)).
 use Rattle.std.specs.Prelude.{ℕ, if◌then◌else◌, List, [], ◌∷◌, Option, None, Some}
 use Rattle.plan_services.specs.declared.planned.UnitFault.{UnitFault}
-use Rattle.plan_services.specs.declared.planned.UnitFault.TheVariants.{Masked, Missing}
+use Rattle.plan_services.specs.declared.planned.UnitFault.TheVariants.{Idle, Masked, Missing}
 use Rattle.plan_timers.specs.declared.reports.NotPlanned.{NotPlanned}
 use Rattle.plan_timers.specs.declared.reports.Unplanned.{Unplanned}
-use Rattle.plan_timers.specs.declared.reports.Unplanned.TheVariants.{UnitMasked, UnitMissing}
+use Rattle.plan_timers.specs.declared.reports.Unplanned.TheVariants.{UnitIdle, UnitMasked, UnitMissing}
 use Rattle.plan_timers.specs.Source.{TimerParts}
+use Rattle.plan_services.specs.Commands.{is_idle}
 use Rattle.plan_services.specs.Started.{started_unit}
 use Rattle.plan_tree.specs.Tree.{Held}
 use Rattle.plan_units.specs.declared.paths.UnitDir.{UnitDir}
@@ -15,19 +16,23 @@ use Rattle.plan_units.specs.Unit.{unit_of}
 
 -- ---- the unit
 
--- a unit has a file, or a template that has one, and isn't masked
-abbrev pub fault_by_unit : Held → Option Unit → Option UnitFault
-fault_by_unit held None = Some Missing
-fault_by_unit held (Some unit) = if is_mask held.node unit.file.real then Some Masked else None
+-- a unit has a file, or a template that has one, isn't masked, and can start
+abbrev pub fault_by_unit : Held → List UnitDir → Option Unit → Option UnitFault
+fault_by_unit held dirs None = Some Missing
+fault_by_unit held dirs (Some unit) =
+    if is_mask held.node unit.file.real then Some Masked else
+    if is_idle held dirs unit then Some Idle else
+    None
 
 abbrev pub unit_fault : Held → List UnitDir → List ℕ → Option UnitFault
-unit_fault held dirs name = fault_by_unit held (unit_of held.node dirs name)
+unit_fault held dirs name = fault_by_unit held dirs (unit_of held.node dirs name)
 
 -- ---- one timer
 
 abbrev pub why_by : List ℕ → UnitFault → Unplanned
 why_by unit Missing = UnitMissing unit
 why_by unit Masked = UnitMasked unit
+why_by unit Idle = UnitIdle unit
 
 -- a timer is reported by the path of its own file
 abbrev pub other_by : List ℕ → List ℕ → Option UnitFault → Option NotPlanned

@@ -3,6 +3,7 @@
 ghost use Rattle.std.specs.Prelude.{◌≡◌, ◌++◌, [], true, IfOk, OnOk};
 ghost use Rattle.plan_services.specs.Planned.{fault_by_unit, not_planned, other_by, planned, unit_fault, why_not, with_other, with_planned};
 
+use crate::commands::is_idle;
 use crate::started::started_unit;
 use plan_timers::{NotPlanned, TimerSource, Unplanned, copy_of};
 use plan_tree::Tree;
@@ -25,9 +26,12 @@ pub(crate) enum UnitFault {
     Missing,
     // Its file is a mask.
     Masked,
+    // It is a service without a command.
+    Idle,
 }
 
-/// Returns which of some timers are planned, in their order: those whose unit has a file and isn't masked.
+/// Returns which of some timers are planned, in their order: those whose unit has a file, isn't masked and can
+/// start.
 ///
 /// # Errors
 ///
@@ -101,6 +105,7 @@ fn other_by(
     let why = match fault {
         UnitFault::Missing => Unplanned::UnitMissing(unit),
         UnitFault::Masked => Unplanned::UnitMasked(unit),
+        UnitFault::Idle => Unplanned::UnitIdle(unit),
     };
     Ok(Some(NotPlanned { path, why }))
 }
@@ -116,23 +121,27 @@ fn unit_fault<T: Tree>(
         fault ≡ unit_fault (T.held tree.now) dirs.now name.now) }
 {
     let unit = unit_of(alloc, tree, dirs, name)?;
-    fault_by_unit(alloc, tree, &unit)
+    fault_by_unit(alloc, tree, dirs, &unit)
 }
 
 // Returns what is wrong with a unit, if there is one.
 fn fault_by_unit<T: Tree>(
     alloc: Global,
     tree: &T,
+    dirs: &[UnitDir],
     unit: &Option<Unit>,
 ) -> Result<Option<UnitFault>, AllocError>
-    ensures { T.is_known ≡ true → IfOk result (λ fault. fault ≡ fault_by_unit (T.held tree.now) unit.now) }
+    ensures { T.is_known ≡ true → IfOk result (λ fault.
+        fault ≡ fault_by_unit (T.held tree.now) dirs.now unit.now) }
 {
     let Some(unit) = unit else {
         return Ok(Some(UnitFault::Missing));
     };
     if is_mask(alloc, tree, unit.file.real.as_str())? {
-        Ok(Some(UnitFault::Masked))
-    } else {
-        Ok(None)
+        return Ok(Some(UnitFault::Masked));
     }
+    if is_idle(alloc, tree, dirs, unit)? {
+        return Ok(Some(UnitFault::Idle));
+    }
+    Ok(None)
 }

@@ -3,7 +3,7 @@ use Rattle.std.specs.Prelude.{ℕ, List, ◌++◌, codes}
 use Rattle.plan_timers.specs.declared.reports.Why.{Why}
 use Rattle.plan_timers.specs.declared.reports.Why.TheVariants.{NoLink, BadName, Escape, NoSuchTimer, Masked, NotReadable, NameTaken, NotUtf8, WantedBy}
 use Rattle.plan_timers.specs.declared.reports.Unplanned.{Unplanned}
-use Rattle.plan_timers.specs.declared.reports.Unplanned.TheVariants.{Anacron, Monotonic, AtJobs, UserTimers, UnitMissing, UnitMasked}
+use Rattle.plan_timers.specs.declared.reports.Unplanned.TheVariants.{Anacron, Monotonic, AtJobs, UserTimers, UnitMissing, UnitMasked, UnitIdle, NotLoaded, LineNotLoaded}
 
 -- why something is skipped
 abbrev pub why_text : Why → List ℕ
@@ -25,3 +25,6 @@ unplanned_text AtJobs = codes "jobs of at"
 unplanned_text UserTimers = codes "user timers"
 unplanned_text (UnitMissing unit) = codes "its unit " ++ unit ++ codes " is missing"
 unplanned_text (UnitMasked unit) = codes "its unit " ++ unit ++ codes " is masked"
+unplanned_text (UnitIdle unit) = codes "its unit " ++ unit ++ codes " has no ExecStart="
+unplanned_text (NotLoaded why) = why
+unplanned_text (LineNotLoaded line why) = why

@@ -81,6 +81,12 @@ pub enum Unplanned {
     UnitMissing(Text),
     /// The unit that the timer starts is masked.
     UnitMasked(Text),
+    /// The service that the timer starts has no command.
+    UnitIdle(Text),
+    /// The daemon that reads the file doesn't load it, for this reason.
+    NotLoaded(Text),
+    /// The same for what has this line, or for the whole file because of this line.
+    LineNotLoaded(u32, Text),
 }
 
 impl Unplanned {
@@ -101,6 +107,11 @@ impl Unplanned {
                 around(alloc, "its unit ", unit.as_str(), " is missing")
             }
             Unplanned::UnitMasked(unit) => around(alloc, "its unit ", unit.as_str(), " is masked"),
+            Unplanned::UnitIdle(unit) => {
+                around(alloc, "its unit ", unit.as_str(), " has no ExecStart=")
+            }
+            Unplanned::NotLoaded(why) => copy_of(alloc, why.as_str()),
+            Unplanned::LineNotLoaded(_, why) => copy_of(alloc, why.as_str()),
         }
     }
 }

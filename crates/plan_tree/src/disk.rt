@@ -1,7 +1,7 @@
 //! The files of the running machine. No contract says what they are.
 
 use crate::name::Name;
-use crate::tree::{Listing, Node, Tree};
+use crate::tree::{Listing, Node, Status, Tree};
 use plan_texts::Text;
 use std::alloc::{AllocError, Global};
 use std::fs::{self, File};
@@ -10,6 +10,9 @@ use std::os::unix::fs::{FileTypeExt, MetadataExt};
 
 // The number of the device /dev/null: 1, 3 (null(4)).
 const NULL_DEVICE: u64 = 0x103;
+
+// The bits of a mode that aren't its file type (inode(7)).
+const PERMISSIONS: u32 = 0o7777;
 
 /// The files of the running machine. A path is read as the machine reads it: `/etc/crontab`, `./root/etc`. So `root/` is
 /// where the link `root` leads, if it is one. See `Rooted` for the tree below a directory.
@@ -43,6 +46,15 @@ impl<'a> DiskTree<'a> {
             return Ok(Node::Null);
         }
         Ok(Node::Other)
+    }
+
+    fn look_at_status(&self, path: &str) -> io::Result<Status> {
+        let found = fs::symlink_metadata(self.runtime, path)?;
+        Ok(Status {
+            owner: found.uid(),
+            mode: found.mode() & PERMISSIONS,
+            links: found.nlink(),
+        })
     }
 
     fn list(&self, alloc: Global, path: &str) -> io::Result<Listing> {
@@ -96,6 +108,13 @@ impl Tree for DiskTree<'_> {
     fn names(&self, alloc: Global, path: &str) -> Result<Option<Listing>, AllocError> {
         match self.list(alloc, path) {
             Ok(listing) => Ok(Some(listing)),
+            Err(fault) => unless_memory(fault, None),
+        }
+    }
+
+    fn status(&self, _alloc: Global, path: &str) -> Result<Option<Status>, AllocError> {
+        match self.look_at_status(path) {
+            Ok(status) => Ok(Some(status)),
             Err(fault) => unless_memory(fault, None),
         }
     }

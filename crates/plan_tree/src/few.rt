@@ -7,7 +7,7 @@ ghost use Rattle.plan_tree.specs.Few.{few_at, is_left_out};
 
 use crate::name::Name;
 use crate::place::last_name_len;
-use crate::tree::{Listing, Node, Tree};
+use crate::tree::{Listing, Node, Status, Tree};
 use plan_texts::Text;
 use std::alloc::{AllocError, Global};
 
@@ -18,6 +18,8 @@ pub enum Few<'a> {
     Unreadable,
     /// A regular file with these bytes, or one that can't be read and isn't empty.
     File(Option<&'a [u8]>),
+    /// A regular file with these bytes and this status.
+    Owned(&'a [u8], Status),
     /// A directory with these names, or one that can't be listed.
     Directory(Option<&'a [&'a str]>),
     /// A link with this text.
@@ -28,7 +30,7 @@ pub enum Few<'a> {
     Other,
 }
 
-/// A tree that is a list of paths, each with what it has. If a directory has names, nothing has another name in it.
+/// A tree that is a list of paths, each with what it has. Only `Owned` has a status. If a directory has names, nothing has another name in it.
 #[derive(Drop)]
 pub struct FewNodes<'a>(pub &'a [(&'a str, Few<'a>)]);
 
@@ -91,6 +93,9 @@ impl Tree for FewNodes<'_> {
             Some(Few::File(Some(bytes))) => Ok(Node::File {
                 is_empty: bytes.is_empty(),
             }),
+            Some(Few::Owned(bytes, _)) => Ok(Node::File {
+                is_empty: bytes.is_empty(),
+            }),
             Some(Few::Directory(_)) => Ok(Node::Directory),
             Some(Few::Link(text)) => Ok(Node::Link(Text::new(String::from_str(alloc, text)?))),
             Some(Few::Null) => Ok(Node::Null),
@@ -108,9 +113,18 @@ impl Tree for FewNodes<'_> {
         }
     }
 
+    fn status(&self, _alloc: Global, path: &str) -> Result<Option<Status>, AllocError> {
+        match self.find(path.as_bytes()) {
+            Some(Few::Owned(_, status)) => Ok(Some(status)),
+            _ => Ok(None),
+        }
+    }
+
     fn front(&self, alloc: Global, path: &str, most: u64) -> Result<Option<Vec<u8>>, AllocError> {
         match self.find(path.as_bytes()) {
-            Some(Few::File(Some(bytes))) => Ok(Some(first_bytes(alloc, bytes, most)?)),
+            Some(Few::File(Some(bytes)) | Few::Owned(bytes, _)) => Ok(Some(first_bytes(
+                alloc, bytes, most,
+            )?)),
             _ => Ok(None),
         }
     }

@@ -27,4 +27,4 @@ pub use name::{Name, in_order};
 pub use place::{Place, names_of};
 pub use reading::contents;
 pub use rooted::{Rooted, is_directory};
-pub use tree::{Listing, Node, Tree};
+pub use tree::{Listing, Node, Status, Tree};

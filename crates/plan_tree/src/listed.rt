@@ -11,7 +11,7 @@ use crate::complete::Complete;
 use crate::kept::{Kept, keep_dir, keep_way};
 use crate::links::{is_here, is_up};
 use crate::name::Name;
-use crate::tree::{Listing, Node, Tree};
+use crate::tree::{Listing, Node, Status, Tree};
 use plan_texts::Text;
 use std::alloc::{AllocError, Global};
 
@@ -133,6 +133,10 @@ impl<T: Complete> Tree for Listed<'_, T> {
             Some(found) => Ok(Some(copy_of_listing(alloc, &found.listing)?)),
             None => self.tree.names(alloc, path),
         }
+    }
+
+    fn status(&self, alloc: Global, path: &str) -> Result<Option<Status>, AllocError> {
+        self.tree.status(alloc, path)
     }
 
     fn front(&self, alloc: Global, path: &str, most: u64) -> Result<Option<Vec<u8>>, AllocError> {

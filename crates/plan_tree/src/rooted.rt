@@ -3,7 +3,7 @@
 ghost use Rattle.std.specs.Prelude.{◌≡◌, [], true, IfOk, string_bytes};
 ghost use Rattle.plan_tree.specs.Tree.{below, is_directory, path_below};
 
-use crate::tree::{Listing, Node, Tree};
+use crate::tree::{Listing, Node, Status, Tree};
 use std::alloc::{AllocError, Global};
 
 /// The tree below a directory of another tree: at a path it has what the other one has at the directory's path, `/`, and
@@ -38,6 +38,11 @@ impl<T: Tree> Tree for Rooted<'_, T> {
     fn names(&self, alloc: Global, path: &str) -> Result<Option<Listing>, AllocError> {
         let whole = path_below(alloc, self.root, path)?;
         self.tree.names(alloc, whole.as_str())
+    }
+
+    fn status(&self, alloc: Global, path: &str) -> Result<Option<Status>, AllocError> {
+        let whole = path_below(alloc, self.root, path)?;
+        self.tree.status(alloc, whole.as_str())
     }
 
     fn front(&self, alloc: Global, path: &str, most: u64) -> Result<Option<Vec<u8>>, AllocError> {

@@ -51,6 +51,17 @@ pub struct Listing {
     pub is_whole: bool,
 }
 
+/// Who owns what is at a path, without following a link, and who may do what with it (inode(7)).
+#[derive(Clone, Copy, Debug, PartialEq, Eq)]
+pub struct Status {
+    /// The number of the user who owns it; that of root is 0.
+    pub owner: u32,
+    /// The bits of its mode: those of its permissions, and the three above them.
+    pub mode: u32,
+    /// The number of its hard links.
+    pub links: u64,
+}
+
 /// A tree of files. Paths are relative to its root, and have no `/` at either end.
 pub trait Tree {
     ghost use Rattle.std.specs.Prelude.{◌≡◌, Bool, true, IfOk, take};
@@ -70,6 +81,10 @@ pub trait Tree {
     /// Returns the names in a directory, or `None` if it can't be listed.
     fn names(&self, alloc: Global, path: &str) -> Result<Option<Listing>, AllocError>
         ensures { is_known ≡ true → IfOk result (λ names. option_map listed names ≡ (held self.now).names path.now) };
+
+    /// Returns the status of what is at a path; `None` if it is missing or can't be determined.
+    fn status(&self, alloc: Global, path: &str) -> Result<Option<Status>, AllocError>
+        ensures { is_known ≡ true → IfOk result (λ status. status ≡ (held self.now).status path.now) };
 
     /// Returns the first `most` bytes of a file, or all if there are fewer; `None` if it can't be read.
     fn front(&self, alloc: Global, path: &str, most: u64) -> Result<Option<Vec<u8>>, AllocError>

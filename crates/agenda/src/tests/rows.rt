@@ -181,7 +181,7 @@ agenda 2\t2024-01-01T00:00:00Z\t2024-01-01T00:00:00Z\t0
 1 2 agenda|check|--cron-d|timers/rot.timer|crontab
 timers/rot.timer: error: not a name that cron reads [BadTabName]
 timers/rot.timer:1: error: expected five fields and a command [WrongParts]
-crontab: error: not a timer's name: it must end in .timer and name no template [BadTimerName]
+crontab: error: not a timer's name: it must end in .timer and name no template (for a crontab, use --crontab or --cron-d) [BadTimerName]
 crontab: error: no [Timer] section [NoTimerSection]
 %
 1 3 agenda|check|--event-zones|t.timer|--zone|UTC

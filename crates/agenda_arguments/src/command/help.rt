@@ -45,6 +45,14 @@ pub(super) const TABLE: &str = "Print a table, also if standard output isn't a t
 
 pub(super) const TEXT: &str = "Print text, also on a terminal";
 
+pub(super) const DENY: &str = "\
+Print this warning as an error, with status 1; all is
+every warning; may be given more than once";
+
+pub(super) const ALLOW: &str = "\
+Don't print this warning, even with --deny all; may be
+given more than once";
+
 pub(super) const JSON: &str = "\
 Print each line as a JSON object; agenda(1)
 describes the keys";
@@ -159,8 +167,12 @@ warnings, as PATH:LINE: warning: TEXT [CODE], about lines that are valid but may
 what you intended. A message about a whole file has no line number. The exit status is 1
 if there is an error, otherwise 0. 'agenda explain CODE' says what to do about each CODE.
 
-Example:
-  agenda check --crontab jobs backup.timer";
+A comment '# agenda: allow CODE ..' directly above a line allows these warnings there; at
+the head of a file, it allows them in the whole file.
+
+Examples:
+  agenda check --crontab jobs backup.timer
+  agenda check --deny all --allow EitherDay --cron-d etc/cron.d/backup";
 
 pub(super) const MACHINE: &str = "Answers questions about a machine's crontabs and timers";
 

@@ -7,8 +7,8 @@ ghost use Rattle.agenda_arguments.specs.Command.{machine_upcoming, with_machine_
 
 use super::subcommands::Subcommand;
 use super::{
-    CommandOption, JSON, PLANNERS, ROOM, help, new_subcommand, with_alias, with_argument,
-    with_arguments, with_subcommands,
+    ALLOW, CommandOption, DENY, JSON, PLANNERS, ROOM, help, new_subcommand, with_alias,
+    with_argument, with_arguments, with_subcommands,
 };
 use clap::Command;
 use std::alloc::{AllocError, Global};
@@ -113,7 +113,7 @@ pub(super) fn machine_check_command<'a>(alloc: Global) -> Result<Command<'a>, Al
         help::MACHINE_CHECK,
         help::AFTER_MACHINE_CHECK,
     );
-    with_arguments(alloc, command, &[ROOT, ALL, ZONE, UTC, JSON])
+    with_arguments(alloc, command, &[ROOT, ALL, ZONE, UTC, DENY, ALLOW, JSON])
 }
 
 /// Returns the command line of `agenda machine upcoming`.

@@ -42,6 +42,11 @@ pub(crate) const BAD_ZONE_NAME: &str =
 
 pub(crate) const CARRIAGE_RETURN: &str = "The command of a line ends with a carriage return.";
 
+pub(crate) const CRON_DIFFERS: &str = "Debian's cron reads this line otherwise.";
+
+pub(crate) const CRON_IGNORES: &str =
+    "Debian's cron ignores the whole file, so it starts none of its jobs.";
+
 pub(crate) const DELAYED: &str =
     "The timer starts up to the time of 'RandomizedDelaySec=' later than planned.";
 
@@ -55,11 +60,25 @@ pub(crate) const FRACTION: &str = "The second of a calendar event has a fraction
 
 pub(crate) const FULL: &str = "There are more than 1,000 jobs.";
 
+pub(crate) const LINE_END: &str =
+    "The line has a carriage return before its end, or a NUL byte, and systemd ends the line there.";
+
+pub(crate) const MAY_STOP: &str =
+    "systemd 252 may stop for good at this event, in a zone with summer time.";
+
+pub(crate) const MERGED: &str =
+    "Starts of the timer are closer to each other than its accuracy, so systemd may merge them into one.";
+
 pub(crate) const MONOTONIC: &str =
     "The timer also starts by 'OnBootSec=' or the like, which isn't planned.";
 
 pub(crate) const NEVER_STARTS: &str =
     "The rule of this line, or this event, has no start in any year.";
+
+pub(crate) const NOT_SETTLED: &str =
+    "The messages of the planners didn't add up at the end, so nothing is printed.";
+
+pub(crate) const NOT_UTF8: &str = "The bytes of the file aren't UTF-8.";
 
 pub(crate) const NO_COMMAND: &str = "The line has a rule but no command.";
 
@@ -76,10 +95,7 @@ pub(crate) const NO_SUCH_ZONE: &str =
 
 pub(crate) const NO_TIMER_SECTION: &str = "The file has no section '[Timer]'.";
 
-pub(crate) const NOT_SETTLED: &str =
-    "The messages of the planners didn't add up at the end, so nothing is printed.";
-
-pub(crate) const NOT_UTF8: &str = "The bytes of the file aren't UTF-8.";
+pub(crate) const NO_USER: &str = "The user of the line can't be the name of a user.";
 
 pub(crate) const OUT_OF_RANGE: &str = "A value is outside the range of its part.";
 
@@ -87,6 +103,9 @@ pub(crate) const OUT_OF_YEARS: &str = "A time is before 1970, or after 3000-01-0
 
 pub(crate) const PERCENT: &str =
     "The command has a '%' that doesn't follow a backslash, so cron ends the command there.";
+
+pub(crate) const RANGE_FROM_END: &str =
+    "systemd 252 reads a range with a step after '~' from its first value on.";
 
 pub(crate) const SAME_NAME: &str =
     "Two jobs have the same name, because a file is given twice or because files of two directories have the same name.";
@@ -96,6 +115,12 @@ pub(crate) const SKIPPED_STARTS: &str =
 
 pub(crate) const SPECIFIER: &str = "A calendar event has a '%', and specifiers aren't expanded.";
 
+pub(crate) const SYSTEMD_REJECTS: &str =
+    "systemd 252 rejects the event, so the timer doesn't start at it.";
+
+pub(crate) const TIMER_REJECTED: &str =
+    "systemd 252 rejects the whole timer, so it starts nothing.";
+
 pub(crate) const TOO_LARGE: &str = "The file has more than 1,048,576 bytes.";
 
 pub(crate) const TOO_MANY: &str = "The span has more starts than the limit.";
@@ -103,6 +128,9 @@ pub(crate) const TOO_MANY: &str = "The span has more starts than the limit.";
 pub(crate) const TOO_MANY_LINES: &str = "The timer has more than 64 events at once.";
 
 pub(crate) const TOO_MANY_STEPS: &str = "The script has more than 10,000 steps.";
+
+pub(crate) const UNIT_IGNORED: &str =
+    "systemd 252 ignores the value of 'Unit=', so the timer starts the service of its own name.";
 
 pub(crate) const UNKNOWN_KEY: &str =
     "A setting in '[Timer]' isn't one of systemd.timer(5), so systemd ignores it.";

@@ -19,6 +19,29 @@ takes it as part of the last argument. Remove it from each line, for example
 with dos2unix(1).
 ";
 
+pub(crate) const CRON_DIFFERS: &str = "\
+Debian's cron reads this line otherwise. The message says how. A command that
+begins with '=' after a word such as '@daily' makes the line a setting. A NUL
+byte ends the line. Of two backslashes in a row in a command, cron removes one.
+
+Before:
+    @daily grep -c '\\\\.' list
+After:
+    @daily grep -c '[.]' list
+";
+
+pub(crate) const CRON_IGNORES: &str = "\
+Debian's cron ignores the whole file, so it starts none of its jobs. The message
+says why. cron ignores a file if it rejects one line of it, if the file has more
+than 10,003 lines, or if the last line has no newline at its end. cron writes to
+the system's log that it ignored a file, and says nothing else.
+
+Before:
+    MAILTO=
+After:
+    MAILTO=\"\"
+";
+
 pub(crate) const DELAYED: &str = "\
 The timer starts up to the time of 'RandomizedDelaySec=' later than planned. If
 that doesn't matter, do nothing. To see how late a job may start, give --delays
@@ -42,6 +65,36 @@ After:
     0 9 13 * * test $(date +\\%u) != 5 || report
 ";
 
+pub(crate) const LINE_END: &str = "\
+The line has a carriage return before its end, or a NUL byte, and systemd ends
+the line there. systemd reads what follows a carriage return as another line.
+Remove the byte, for example with dos2unix(1).
+";
+
+pub(crate) const MAY_STOP: &str = "\
+systemd 252 may stop for good at this event, in a zone with summer time. A step
+of the event has no end. When the clock changes, systemd can fail to find the
+next start, and then the timer starts no more. Write the values out.
+
+Before:
+    OnCalendar=*-1/5-3 07:00 Europe/Oslo
+After:
+    OnCalendar=*-1,6,11-3 07:00 Europe/Oslo
+";
+
+pub(crate) const MERGED: &str = "\
+Starts of the timer are closer to each other than its accuracy, so systemd may
+merge them into one. The accuracy is the value of 'AccuracySec=', or a minute. A
+random delay adds to it. For example, '*:*:0/10' starts once a minute. To have
+each start, set the accuracy to a second or less.
+
+Before:
+    OnCalendar=*:*:0/10
+After:
+    OnCalendar=*:*:0/10
+    AccuracySec=1s
+";
+
 pub(crate) const MONOTONIC: &str = "\
 The timer also starts by 'OnBootSec=' or the like, which isn't planned. Such a
 start depends on when the machine was booted, or on when a unit was last active.
@@ -62,16 +115,29 @@ After:
 ";
 
 pub(crate) const NO_EVENTS: &str = "\
-The timer has a section '[Timer]', but no event is in it at the end. If the
-timer starts by other settings, such as 'OnBootSec=', do nothing. Otherwise look
-for an empty value after the events.
+The timer has a section '[Timer]', but no event is in it at the end. It starts
+by 'OnClockChange=' or 'OnTimezoneChange=' alone, so no start is planned. If you
+meant this, do nothing. Otherwise look for an empty value after the events.
 
 Before:
     OnCalendar=daily
     OnCalendar=
+    OnClockChange=yes
 After:
     OnCalendar=
     OnCalendar=daily
+    OnClockChange=yes
+";
+
+pub(crate) const NO_USER: &str = "\
+The user of the line can't be the name of a user. It has a '/', or it begins
+with '-' or a digit. In the system's crontab, and in files of /etc/cron.d, each
+line has a user before the command. Write the user.
+
+Before:
+    30 4 * * * /usr/bin/backup --all
+After:
+    30 4 * * * root /usr/bin/backup --all
 ";
 
 pub(crate) const PERCENT: &str = "\
@@ -85,6 +151,18 @@ After:
     0 4 * * * backup --name $(date +\\%F)
 ";
 
+pub(crate) const RANGE_FROM_END: &str = "\
+systemd 252 reads a range with a step after '~' from its first value on. agenda
+reads it from the greater value down. For example, '1..4/2' has the values 1 and
+3 for systemd, and 4 and 2 for agenda. End the range at a value that its step
+reaches.
+
+Before:
+    OnCalendar=*-*~1..4/2
+After:
+    OnCalendar=*-*~1..3/2
+";
+
 pub(crate) const SKIPPED_STARTS: &str = "\
 A step of the event has no end, and systemd 252 may skip starts because of it.
 systemd carries such a step past the limit of its component into the next larger
@@ -95,6 +173,47 @@ Before:
     OnCalendar=*:0/25
 After:
     OnCalendar=*:0..50/25
+";
+
+pub(crate) const SYSTEMD_REJECTS: &str = "\
+systemd 252 rejects the event, so the timer doesn't start at it. agenda reads it
+as systemd.time(7) describes events, and plans it. The message says what to
+write instead. 'systemd-analyze calendar' says how systemd reads an event.
+
+Before:
+    OnCalendar=*:*/15
+After:
+    OnCalendar=*:0/15
+";
+
+pub(crate) const TIMER_REJECTED: &str = "\
+systemd 252 rejects the whole timer, so it starts nothing. The message says why.
+A line that begins with '[' has to be a section's header, such as '[Timer]'. And
+the timer needs a trigger: an event that systemd accepts, a monotonic setting
+such as 'OnBootSec=' with a time span, or 'OnClockChange=' or
+'OnTimezoneChange=' that is true.
+
+Before:
+    [Unit
+    Description=Backup
+    [Timer]
+    OnCalendar=daily
+After:
+    [Unit]
+    Description=Backup
+    [Timer]
+    OnCalendar=daily
+";
+
+pub(crate) const UNIT_IGNORED: &str = "\
+systemd 252 ignores the value of 'Unit=', so the timer starts the service of its
+own name. The value isn't the name of a unit with a suffix that systemd knows,
+or it is the timer itself.
+
+Before:
+    Unit=backup
+After:
+    Unit=backup.service
 ";
 
 pub(crate) const UNKNOWN_KEY: &str = "\

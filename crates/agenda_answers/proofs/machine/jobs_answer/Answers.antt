@@ -54,7 +54,7 @@ returns-in_err-outcome g c =
     (goes _ (rw (c.unnamed_zone-unnamed.ensures, c.origin-origin.ensures) at c.in_ok-form.ensures)
     (goes _ (rw (c.in_ok-sources.ensures, c.as_slice.ensures.value) at c.in_ok-skipped.ensures.errors)
     (failed _ _ (rest_failed _ _ _ _ _ (rw (c.is_stopped.ensures, c.as_slice-2.ensures.value) at c.if-is_stopped.false)
-    (rw (c.in_ok-skipped.ensures.paths, c.in_ok-skipped.ensures.jobs, c.as_slice-except.ensures, c.in_ok-sources.ensures, c.as_slice.ensures.value)
+    (rw (c.in_ok-skipped.ensures.paths, c.in_ok-skipped.ensures.jobs, c.as_slice-except.ensures)
     at c.in_err-outcome.ensures))
     c.from_residual-in_err-outcome.ensures.1)))))
 
@@ -65,6 +65,6 @@ returns g c =
     (goes _ (rw (c.unnamed_zone-unnamed.ensures, c.origin-origin.ensures) at c.in_ok-form.ensures)
     (goes _ (rw (c.in_ok-sources.ensures, c.as_slice.ensures.value) at c.in_ok-skipped.ensures.errors)
     (goes _ (rest_planned _ _ _ _ _ (rw (c.is_stopped.ensures, c.as_slice-2.ensures.value) at c.if-is_stopped.false)
-    (rw (c.in_ok-skipped.ensures.paths, c.in_ok-skipped.ensures.jobs, c.as_slice-except.ensures, c.in_ok-sources.ensures, c.as_slice.ensures.value)
+    (rw (c.in_ok-skipped.ensures.paths, c.in_ok-skipped.ensures.jobs, c.as_slice-except.ensures)
     at c.in_ok-outcome.ensures))
     refl)))))

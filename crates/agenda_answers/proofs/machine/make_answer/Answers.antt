@@ -2,6 +2,7 @@ use Rattle.std.proofs.Common.{refl}
 use Rattle.agenda_faults.specs.declared.faults.Failure.TheVariants.{Run}
 use Rattle.agenda_faults.specs.declared.faults.RunFault.TheVariants as run
 use Rattle.agenda_inputs.specs.Steps.{goes}
+use Rattle.agenda_machine.specs.Loaded.{loaded_sources}
 use Rattle.agenda_answers.proofs.MachineLemmas.{shown_as_planned}
 use Rattle.agenda_inputs.proofs.StepLemmas.{failed}
 use Rattle.agenda_answers.proofs.machine.make_answer.Goals as goal
@@ -10,17 +11,19 @@ pub returns-in_err-machine : goal.returns-in_err-machine
 returns-in_err-machine g c =
     failed _ _ (rw (c.dir_of-dir.ensures, c.as_str.ensures) at c.in_err-machine.ensures) c.from_residual.ensures.1
 
-pub returns-in_err-machine-in-Jobs : goal.returns-in_err-machine-in-Jobs
-returns-in_err-machine-in-Jobs g c =
+pub returns-in_err-loaded-in-Jobs : goal.returns-in_err-loaded-in-Jobs
+returns-in_err-loaded-in-Jobs g c =
     goes _ (rw (c.dir_of-dir.ensures, c.as_str.ensures) at c.in_ok-machine.ensures)
-    (rw c.in-Jobs.is (failed _ (Run run.NoMemory) refl c.from_residual-in_err-machine-in-Jobs.ensures.1))
+    (rw c.in-Jobs.is (failed _ (Run run.NoMemory) refl c.from_residual-in_err-loaded-in-Jobs.ensures.1))
 
-pub returns-in_ok-machine-in-Jobs : goal.returns-in_ok-machine-in-Jobs
-returns-in_ok-machine-in-Jobs g c =
+pub returns-in_ok-loaded-in-Jobs : goal.returns-in_ok-loaded-in-Jobs
+returns-in_ok-loaded-in-Jobs g c =
     goes _ (rw (c.dir_of-dir.ensures, c.as_str.ensures) at c.in_ok-machine.ensures)
-    (rw c.in-Jobs.is (goes _ c.in_ok-machine-in-Jobs.ensures.unplanned
-    (shown_as_planned _ _ _ c.in-Jobs.jobs c.in_ok-machine.machine c.in_ok-machine-in-Jobs.machine _ c.in_ok-machine-in-Jobs.ensures.others
-    (rw (c.new-below.ensures, c.root_of.ensures, c.dir_of-dir.ensures, c.as_str.ensures) at c.jobs_answer.ensures))))
+    (rw c.in-Jobs.is (goes _ c.in_ok-loaded-in-Jobs.ensures.unplanned
+    (shown_as_planned _ _ _ c.in-Jobs.jobs c.in_ok-machine.machine c.in_ok-loaded-in-Jobs.loaded.machine
+    (loaded_sources c.in_ok-machine.machine) _ c.in_ok-loaded-in-Jobs.ensures.others
+    (rw (c.in_ok-loaded-in-Jobs.ensures.planned, c.new-below.ensures, c.root_of.ensures, c.dir_of-dir.ensures, c.as_str.ensures)
+    at c.jobs_answer.ensures))))
 
 pub returns-in-Sources : goal.returns-in-Sources
 returns-in-Sources g c =

@@ -1,10 +1,8 @@
-use Rattle.std.proofs.Common.{◌++◌, true, codes, refl, ap, sym, subst, append_assoc}
+use Rattle.std.proofs.Common.{◌++◌, codes, refl, ap, sym, append_assoc}
 use Rattle.plan_streams.proofs.StreamLemmas.{takes_both}
-use Rattle.plan_streams.specs.Writer.{Takes}
-use Rattle.plan_write.specs.Json.{json_bytes, text_in}
+use Rattle.plan_write.specs.Json.{json_bytes}
 use Rattle.plan_write.proofs.TakesLemmas.{takes_three}
 use Rattle.agenda_findings.specs.Findings.{finding_object, members_before, message_of}
-use Rattle.agenda_findings.specs.Messages.{message}
 use Rattle.agenda_findings.proofs.findings.put_finding_object.Goals as goal
 
 pub returns : goal.returns
@@ -17,7 +15,6 @@ returns g c =
     takes_three holds takes_all c.args.lines.now c.put_members_before.new.lines c.put.new.self c.put-2.new.self before
     (codes ",\"text\":\"") (text ++ codes "\"}\n") (finding_object c.args.path.now c.args.source finding)
     c.put_members_before.ensures c.put.ensures
-    (takes_both holds takes_all c.put.new.self c.put_message.new.lines c.put-2.new.self text (codes "\"}\n")
-    (text ++ codes "\"}\n") (subst (Takes holds takes_all c.put.new.self c.put_message.new.lines)
-    (λ i. text_in true (message c.args.source finding.kind (c.quote_of.ensures i))) c.put_message.ensures) c.put-2.ensures refl)
+    (takes_both holds takes_all c.put.new.self c.put_message_of.new.lines c.put-2.new.self text (codes "\"}\n")
+    (text ++ codes "\"}\n") c.put_message_of.ensures c.put-2.ensures refl)
     (ap (λ end. before ++ (codes ",\"text\":\"" ++ end)) (sym (append_assoc text (codes "\"") (codes "}\n"))))

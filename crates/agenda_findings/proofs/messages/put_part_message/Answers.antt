@@ -1,5 +1,6 @@
 use Rattle.std.proofs.Common.{◌++◌, codes, ◌∙◌}
-use Rattle.agenda_findings.specs.Messages.{part_name, part_values, problem_after, quoted}
+use Rattle.agenda_findings.specs.Messages.{part_name, part_values, problem_after}
+use Rattle.agenda_findings.specs.Quotes.{quoted}
 use Rattle.agenda_findings.proofs.TextLemmas.{takes_texts}
 use Rattle.agenda_findings.proofs.messages.put_part_message.Goals as goal
 

@@ -11,3 +11,6 @@ returns-in-Monotonic g c = rw c.in-Monotonic.is c.put_shown-in-Monotonic.ensures
 
 pub returns-in-Anacron : goal.returns-in-Anacron
 returns-in-Anacron g c = rw c.in-Anacron.is c.put_shown.ensures
+
+pub returns-in-UnitIdle : goal.returns-in-UnitIdle
+returns-in-UnitIdle g c = rw c.in-UnitIdle.is (rw c.as_str-in-UnitIdle.ensures at c.put_around-in-UnitIdle.ensures)

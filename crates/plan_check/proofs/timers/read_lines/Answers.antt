@@ -1,6 +1,7 @@
 -- Line by line: what was found so far, with what the remaining lines add to it, is what is found in all lines.
 use Rattle.std.proofs.Common.{◌≡◌, ◌+◌, ◌++◌, ◌||◌, [], append-nil, append_assoc, drop, map, ap, refl, rules, sym, ◌∙◌}
 use Rattle.std.proofs.lemmas.List.{drop_all}
+use Rattle.std.specs.List.{cons_option}
 use Rattle.plan_rules.specs.Timer.{effects_from, has_timer, is_reset, settings_from, timer_setting}
 use Rattle.plan_rules.specs.TimerDelays.{delays_with}
 use Rattle.plan_rules.specs.TimerEntries.{EventCount, TimerState, count_from, draft_from, draft_of, shown_line, state_after, steps_from}
@@ -9,7 +10,7 @@ use Rattle.plan_rules.proofs.TimerLemmas.{delays_front}
 use Rattle.plan_check.specs.declared.settings.Standing.{Standing}
 use Rattle.plan_check.specs.Settings.{delay_after, is_span, standing_after}
 use Rattle.plan_check.specs.Timers.{lines_findings}
-use Rattle.plan_check.proofs.TimerLinesLemmas.{delay_front, delay_with, one_more, section_last, stands_front, stands_last, stands_with}
+use Rattle.plan_check.proofs.TimerLinesLemmas.{delay_front, delay_with, kept_front, one_more, section_last, stands_front, stands_last, stands_with}
 use Rattle.plan_check.proofs.timers.read_lines.Goals as goal
 
 pub loop-line-init : goal.loop-line-init
@@ -26,6 +27,7 @@ loop-line-init c =
       delays = λ i. delays_with (stood i).delays (settings i);
       draft = λ i. draft_from (c.new-draft.ensures i)
           (steps_from (state i).zones (state i).count (effects_from (state i).inside all));
+      settings = λ i. c.new-settings.ensures.items i ++ settings i;
       delay = ap (delay_with []) settings;
       delay_is_text = search rules;
     }
@@ -54,6 +56,9 @@ loop-line-preserved c =
           (ap (λ (s : Standing). s.monotonic) stands) new (stands_front is_span is_reset stood.monotonic setting settings) so_far.monotonic;
       delays = one_more (λ delays s left. delays_with delays (settings_from s.inside left)) old line more next
           (ap (λ (s : Standing). s.delays) stands) new (delays_front stood.delays setting settings) so_far.delays;
+      settings = one_more (λ kept s left. kept ++ settings_from s.inside left) old line more next
+          (c.in_ok-keep_setting.ensures ∙ ap (λ s. c.loop-line.settings.items ++ cons_option s []) c.setting-setting.ensures) new
+          (kept_front c.loop-line.settings.items setting settings) so_far.settings;
       delay = one_more (λ delay s left. delay_with delay (settings_from s.inside left)) old line more next
           (c.delay_after-delay.ensures ∙ ap (delay_after c.loop-line.delay.now) c.setting-setting.ensures) new
           (delay_front c.loop-line.delay.now setting settings) so_far.delay;
@@ -69,14 +74,26 @@ returns c =
     let found = c.loop-line.found.items in
     let so_far = c.loop-line.invariant in
     let none = sym (ap (map shown_line) (drop_all c.loop-line.line-index c.args.lines.now c.loop-line-test.false)) in
+    let section = sym (section_last now.found) ∙ ap (λ left. now.found || has_timer left) none ∙ so_far.section in
+    let held = ap (λ (count : EventCount). count.held) (ap (λ left. count_from now.count (effects_from now.inside left)) none ∙ so_far.count) in
+    let monotonic = sym (stands_last is_span is_reset stood.monotonic)
+    ∙ ap (λ left. stands_with is_span is_reset stood.monotonic (settings_from now.inside left)) none ∙ so_far.monotonic in
+    let delays = ap (λ left. delays_with stood.delays (settings_from now.inside left)) none ∙ so_far.delays in
+    let delay = ap (λ left. delay_with c.loop-line.delay.now (settings_from now.inside left)) none ∙ so_far.delay in
+    let settings = sym (append-nil c.loop-line.settings.items)
+    ∙ ap (λ left. c.loop-line.settings.items ++ settings_from now.inside left) none ∙ so_far.settings in
+    let draft = ap (λ left. draft_from (draft_of c.loop-line.draft) (steps_from now.zones now.count (effects_from now.inside left))) none
+    ∙ so_far.draft in
     record {
-      section = sym (section_last now.found) ∙ ap (λ left. now.found || has_timer left) none ∙ so_far.section;
-      held = ap (λ (count : EventCount). count.held) (ap (λ left. count_from now.count (effects_from now.inside left)) none ∙ so_far.count);
-      monotonic = sym (stands_last is_span is_reset stood.monotonic)
-          ∙ ap (λ left. stands_with is_span is_reset stood.monotonic (settings_from now.inside left)) none ∙ so_far.monotonic;
-      delays = ap (λ left. delays_with stood.delays (settings_from now.inside left)) none ∙ so_far.delays;
-      delay = ap (λ left. delay_with c.loop-line.delay.now (settings_from now.inside left)) none ∙ so_far.delay;
-      draft = ap (λ left. draft_from (draft_of c.loop-line.draft) (steps_from now.zones now.count (effects_from now.inside left))) none
-          ∙ so_far.draft;
+      read = λ i. record {
+        bad_header = c.has_bad_header-has_bad_header.ensures i;
+        has_section = section i;
+        held = held i;
+        monotonic = monotonic i;
+        delays = delays i;
+        delay = delay i;
+        settings = settings i;
+      };
+      draft = draft;
       found = sym (append-nil found) ∙ ap (λ left. found ++ lines_findings c.args.clock.now now left) none ∙ so_far.found;
     }

@@ -24,6 +24,7 @@ invariant-loop-line l =
           ≡ is_monotonic (settings_from false all);
       delays : delays_with l.standing.delays (settings_from l.reader.inside left)
           ≡ delays_with (delays_by l.context.accuracy) (settings_from false all);
+      settings : l.settings.items ++ settings_from l.reader.inside left ≡ settings_from false all;
       delay : delay_with l.delay (settings_from l.reader.inside left) ≡ last_delay (settings_from false all);
       delay_is_text : shadow (Utf8 l.delay);
       draft : draft_from (draft_of l.draft) (steps_from l.reader.zones l.reader.count (effects_from l.reader.inside left))

@@ -1,0 +1,5 @@
+pub mod Policy
+pub mod Comments
+pub mod Nearest
+pub mod Reading
+pub mod Judged

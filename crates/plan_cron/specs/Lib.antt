@@ -1,0 +1,6 @@
+pub mod Words
+pub mod Lines
+pub mod Settings
+pub mod Commands
+pub mod Users
+pub mod Hints

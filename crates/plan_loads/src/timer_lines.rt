@@ -1,0 +1,372 @@
+//! What systemd 252 loads of a timer: nothing of a file that it rejects, and only the events that it accepts.
+
+ghost use Rattle.std.specs.Prelude.{◌≡◌, ℕ, List, Option, None, ◌++◌, ◌∷◌, [], ◌≤◌, IfOk, OnOk, is_some, length, map};
+ghost use Rattle.std.specs.Option.{option_map};
+ghost use Rattle.plan_loads.specs.TimerLines.{after_line, after_plain, after_section, after_setting, elapses_after, event_hint, event_report, event_why, is_event, is_triggered, line_of, lines_loading, loading_by, no_scan, no_switches, path_at, scan_from, switched, switches_after, timer_loading, trimmed_lines, whole_report, with_text, with_text_unless};
+ghost use Rattle.plan_parts.specs.Parts.{files_of};
+ghost use Rattle.plan_rules.specs.FileText.{text_reading};
+ghost use Rattle.plan_texts.specs.Limits.{most_bytes};
+ghost use Rattle.plan_texts.specs.WholeLines.{trimmed, whole_text};
+ghost use Rattle.plan_triggers.specs.TimerFile.{has_bad_header};
+ghost use Rattle.plan_units.specs.Settings.{section_name, setting_of};
+
+use crate::loading::{Loading, all_loaded};
+use plan_parts::Parts;
+use plan_rules::{is_reset, text_of};
+use plan_systemd::rejection;
+use plan_texts::Text;
+use plan_texts::whole_lines::{WholeLine, trimmed, whole_lines};
+use plan_timers::{NotPlanned, Unplanned, copy_of};
+use plan_triggers::{has_bad_header, is_elapsing_span, turns_off, turns_on};
+use plan_units::{section_name, setting_of};
+use std::alloc::{AllocError, Global};
+use std::marker::Model;
+
+// What says that a timer elapses.
+#[derive(Clone, Copy, Debug, PartialEq, Eq)]
+pub(crate) struct Switches {
+    // An event that systemd accepts, or a time span, since the last reset.
+    pub(crate) elapses: bool,
+    // The changes of the clock.
+    pub(crate) on_clock: bool,
+    // The changes of the time zone.
+    pub(crate) on_zone: bool,
+}
+
+// What is known after some lines of a timer.
+#[derive(Drop)]
+struct Scan {
+    // Whether the next line is in a `[Timer]` section.
+    inside: bool,
+    // Whether there was one.
+    found: bool,
+    // What triggers the timer.
+    switches: Switches,
+    // The text that is loaded.
+    text: Vec<u8>,
+    // The lines that aren't.
+    reports: Vec<NotPlanned>,
+}
+
+impl Model for Scan {
+    ghost use Rattle.plan_loads.specs.TimerLines.{Scan};
+
+    ghost Value = { Scan };
+
+    ghost view = { λ scan. record {
+      inside = scan.inside;
+      found = scan.found;
+      switches = scan.switches;
+      text = scan.text.items;
+      reports = scan.reports.items;
+    } };
+}
+
+// Returns what systemd loads of a timer, whose first file has this path.
+pub(crate) fn timer_loading(
+    alloc: Global,
+    parts: &Parts,
+    path: &str,
+    bytes: &[u8],
+) -> Result<Loading, AllocError>
+    ensures { IfOk result (λ loading. loading ≡ timer_loading parts.now path.now bytes.now (text_reading bytes.now)) }
+{
+    let Ok(text) = text_of(bytes) else {
+        return all_loaded(alloc, bytes);
+    };
+    let lines = whole_lines(alloc, text)?;
+    lines_loading(alloc, parts, path, bytes, lines.as_slice())
+}
+
+// Returns what systemd loads of a timer with these lines.
+fn lines_loading(
+    alloc: Global,
+    parts: &Parts,
+    path: &str,
+    bytes: &[u8],
+    lines: &[WholeLine],
+) -> Result<Loading, AllocError>
+    ensures { IfOk result (λ loading. loading ≡ lines_loading parts.now path.now bytes.now (map whole_text lines.now)) }
+{
+    if is_rejected(lines) {
+        let reports = Vec::new(alloc);
+        let why = "systemd 252 rejects this file: bad section header";
+        return nothing_with(alloc, path, why, reports);
+    }
+    let scan = scanned(alloc, parts, lines)?;
+    loading_by(alloc, path, bytes, scan)
+}
+
+// Returns whether systemd rejects a file for the header of a section.
+fn is_rejected(lines: &[WholeLine]) -> bool
+    ensures { result ≡ has_bad_header (trimmed_lines (map whole_text lines.now)) }
+{
+    has_bad_header(lines)
+}
+
+// Returns what is loaded of a timer after all its lines.
+fn loading_by(alloc: Global, path: &str, bytes: &[u8], scan: Scan) -> Result<Loading, AllocError>
+    ensures { IfOk result (λ loading. loading ≡ loading_by path.now bytes.now scan) }
+{
+    let Scan {
+        found,
+        switches,
+        text,
+        reports,
+        ..
+    } = scan;
+    if found && !is_triggered(switches) {
+        let why = "systemd 252 rejects this timer: it has no valid trigger";
+        return nothing_with(alloc, path, why, reports);
+    }
+    if reports.is_empty() {
+        return all_loaded(alloc, bytes);
+    }
+    Ok(Loading {
+        text: Some(text),
+        reports,
+    })
+}
+
+// Returns that nothing is loaded of a file, with a report of it after others.
+fn nothing_with(
+    alloc: Global,
+    path: &str,
+    why: &str,
+    reports: Vec<NotPlanned>,
+) -> Result<Loading, AllocError>
+    ensures { IfOk result (λ loading.
+        loading ≡ record { text = None; reports = reports.items ++ whole_report path.now why.now ∷ [] }) }
+{
+    let mut reports = reports;
+    reports.push(NotPlanned {
+        path: copy_of(alloc, path)?,
+        why: Unplanned::NotLoaded(copy_of(alloc, why)?),
+    })?;
+    Ok(Loading {
+        text: None,
+        reports,
+    })
+}
+
+// Returns whether a timer is triggered.
+fn is_triggered(switches: Switches) -> bool
+    ensures { result ≡ is_triggered switches }
+{
+    switches.elapses || switches.on_clock || switches.on_zone
+}
+
+// Returns what is known after all lines of a timer.
+fn scanned(alloc: Global, parts: &Parts, lines: &[WholeLine]) -> Result<Scan, AllocError>
+    ensures { IfOk result (λ scan. scan ≡ scan_from parts.now no_scan (map whole_text lines.now)) }
+{
+    let mut scan = no_scan(alloc);
+    for line in lines {
+        scan = after_line(alloc, parts, scan, line)?;
+    }
+    Ok(scan)
+}
+
+// Returns what is known before the first line.
+fn no_scan(alloc: Global) -> Scan
+    ensures { result ≡ no_scan }
+{
+    Scan {
+        inside: false,
+        found: false,
+        switches: Switches {
+            elapses: false,
+            on_clock: false,
+            on_zone: false,
+        },
+        text: Vec::new(alloc),
+        reports: Vec::new(alloc),
+    }
+}
+
+// Returns what is known after a line.
+fn after_line(
+    alloc: Global,
+    parts: &Parts,
+    scan: Scan,
+    line: &WholeLine,
+) -> Result<Scan, AllocError>
+    ensures { IfOk result (λ after. after
+        ≡ after_line parts.now scan (whole_text line.now) (section_name (trimmed (whole_text line.now).1))) }
+{
+    let text = trimmed(line.text.as_str());
+    match section_name(text.as_bytes()) {
+        Some(name) => after_section(scan, line.text.as_str(), name),
+        None => after_plain(alloc, parts, scan, line),
+    }
+}
+
+// Returns what is known after a line that begins the section with a name.
+fn after_section(scan: Scan, line: &str, name: &[u8]) -> Result<Scan, AllocError>
+    ensures { IfOk result (λ after. after ≡ after_section scan line.now name.now) }
+{
+    let is_timer = name == b"Timer".as_slice();
+    let mut after = scan;
+    after.inside = is_timer;
+    after.found = after.found || is_timer;
+    with_text(after, line)
+}
+
+// Returns what is known after a line that begins no section.
+fn after_plain(
+    alloc: Global,
+    parts: &Parts,
+    scan: Scan,
+    line: &WholeLine,
+) -> Result<Scan, AllocError>
+    ensures { IfOk result (λ after. after
+        ≡ after_plain parts.now scan (whole_text line.now) (setting_of (trimmed (whole_text line.now).1))) }
+{
+    match setting_of(trimmed(line.text.as_str())) {
+        Some((key, value)) if scan.inside => { after_setting(alloc, parts, scan, line, key, value) }
+        _ => with_text(scan, line.text.as_str()),
+    }
+}
+
+// Returns what is known after a setting in a `[Timer]` section.
+fn after_setting(
+    alloc: Global,
+    parts: &Parts,
+    scan: Scan,
+    line: &WholeLine,
+    key: &str,
+    value: &str,
+) -> Result<Scan, AllocError>
+    ensures { IfOk result (λ after. after ≡ after_setting parts.now scan (whole_text line.now) (key.now, value.now)) }
+{
+    let hint = event_hint(alloc, key, value)?;
+    let is_left_out = hint.is_some();
+    let mut after = scan;
+    after.switches = switches_after(after.switches, key, value, is_left_out);
+    let mut more = event_report(alloc, parts, line.number, value, hint)?;
+    after.reports.append(&mut more)?;
+    with_text_unless(is_left_out, after, line.text.as_str())
+}
+
+// Adds a line to the text that is loaded, unless it is left out.
+fn with_text_unless(is_left_out: bool, scan: Scan, line: &str) -> Result<Scan, AllocError>
+    ensures { IfOk result (λ after. after ≡ with_text_unless is_left_out scan line.now) }
+{
+    if is_left_out {
+        return Ok(scan);
+    }
+    with_text(scan, line)
+}
+
+// Adds a line to the text that is loaded.
+fn with_text(scan: Scan, line: &str) -> Result<Scan, AllocError>
+    ensures { IfOk result (λ after. after ≡ with_text scan line.now) }
+{
+    let mut after = scan;
+    after.text.extend_from_slice(line.as_bytes())?;
+    after.text.push(b'\n')?;
+    Ok(after)
+}
+
+// Returns what triggers a timer after a setting. An event may be one that systemd rejects.
+fn switches_after(before: Switches, key: &str, value: &str, is_rejected: bool) -> Switches
+    ensures { (hint : Option (List ℕ)) → is_some hint ≡ is_rejected →
+        result ≡ switches_after before (key.now, value.now) hint }
+{
+    Switches {
+        elapses: elapses_after(before.elapses, key, value, is_rejected),
+        on_clock: switched("OnClockChange", before.on_clock, key, value),
+        on_zone: switched("OnTimezoneChange", before.on_zone, key, value),
+    }
+}
+
+// Returns whether a timer elapses after a setting.
+fn elapses_after(before: bool, key: &str, value: &str, is_rejected: bool) -> bool
+    ensures { (hint : Option (List ℕ)) → is_some hint ≡ is_rejected →
+        result ≡ elapses_after before (key.now, value.now) hint }
+{
+    if is_reset(key, value) {
+        return false;
+    }
+    before || (is_event(key, value) && !is_rejected) || is_elapsing_span(key, value)
+}
+
+// Returns whether a timer elapses at such changes after a setting.
+fn switched(change: &str, before: bool, key: &str, value: &str) -> bool
+    ensures { result ≡ switched change.now before (key.now, value.now) }
+{
+    if turns_on(change, key, value) {
+        return true;
+    }
+    if turns_off(change, key, value) {
+        return false;
+    }
+    before
+}
+
+// Returns whether a setting has an event.
+fn is_event(key: &str, value: &str) -> bool
+    ensures { result ≡ is_event (key.now, value.now) }
+{
+    key == "OnCalendar" && !value.is_empty()
+}
+
+// Returns why systemd rejects the event of a setting.
+fn event_hint(alloc: Global, key: &str, value: &str) -> Result<Option<Text>, AllocError>
+    ensures { IfOk result (λ hint. hint ≡ event_hint (key.now, value.now)) }
+{
+    if !is_event(key, value) {
+        return Ok(None);
+    }
+    rejection(alloc, value)
+}
+
+// Returns the report of an event that systemd rejects, if it does.
+fn event_report(
+    alloc: Global,
+    parts: &Parts,
+    number: u32,
+    value: &str,
+    hint: Option<Text>,
+) -> Result<Vec<NotPlanned>, AllocError>
+    ensures { IfOk result (λ reports. reports.items ≡ event_report parts.now number value.now hint) }
+{
+    let mut reports = Vec::new(alloc);
+    if let Some(hint) = hint {
+        let why = event_why(alloc, value, hint.as_str())?;
+        reports.push(line_of(alloc, parts, number, why)?)?;
+    }
+    Ok(reports)
+}
+
+// Returns that systemd rejects an event.
+fn event_why(alloc: Global, value: &str, hint: &str) -> Result<Text, AllocError>
+    ensures { IfOk result (λ why. why ≡ event_why value.now hint.now) }
+{
+    let mut why = String::from_str(alloc, "systemd 252 rejects '")?;
+    why.push_str(value)?;
+    why.push_str("': ")?;
+    why.push_str(hint)?;
+    Ok(Text::new(why))
+}
+
+// Returns that a line of a source's text isn't planned, where it comes from.
+fn line_of(alloc: Global, parts: &Parts, number: u32, why: Text) -> Result<NotPlanned, AllocError>
+    ensures { IfOk result (λ one. one ≡ line_of parts.now number why) }
+{
+    let origin = parts.origin(number);
+    Ok(NotPlanned {
+        path: path_at(alloc, parts, origin.part)?,
+        why: Unplanned::LineNotLoaded(origin.line, why),
+    })
+}
+
+// Returns the path of a file of a source.
+fn path_at(alloc: Global, parts: &Parts, place: usize) -> Result<Text, AllocError>
+    ensures { IfOk result (λ path. path ≡ path_at (files_of parts.now) place) }
+{
+    match parts.path(place) {
+        Some(path) => copy_of(alloc, path),
+        None => copy_of(alloc, ""),
+    }
+}

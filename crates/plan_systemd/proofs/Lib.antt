@@ -1,0 +1,4 @@
+mod HintLemmas
+mod LateDaysLemmas
+pub mod MergedLemmas
+pub mod TextLemmas

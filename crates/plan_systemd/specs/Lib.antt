@@ -1,0 +1,9 @@
+pub mod Flaws
+pub mod FromEnd
+pub mod LateDays
+pub mod MayStop
+pub mod Merged
+pub mod Rejection
+pub mod Skipped
+pub mod Spacing
+pub mod EventHint

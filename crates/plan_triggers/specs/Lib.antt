@@ -1,0 +1,2 @@
+pub mod TimerFile
+pub mod Triggers

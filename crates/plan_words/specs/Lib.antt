@@ -1,0 +1,14 @@
+pub mod Words
+pub mod Tree
+pub mod Meaning
+pub mod Existing
+pub mod YearKinds
+pub mod Sentence
+pub mod Pieces
+pub mod ReadTime
+pub mod ReadDays
+pub mod Reading
+pub mod WellFormed
+pub mod Laws
+pub mod View
+pub mod Appends
