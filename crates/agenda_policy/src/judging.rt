@@ -32,7 +32,7 @@ pub fn judged(
 {
     let sources = sources.as_slice();
     let mut last = None;
-    let mut kept = Vec::new(alloc);
+    let mut kept = Vec::with_capacity(alloc, found.len())?;
     for one in found {
         let judgement = judge(alloc, policy, sources, last, one)?;
         last = judgement.last;

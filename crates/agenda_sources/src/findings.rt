@@ -140,6 +140,7 @@ fn add_source(
 fn add_all(found: &mut Vec<Found>, place: usize, more: Vec<Finding>) -> Result<(), AllocError>
     ensures { OnOk result (found.new.items ≡ found.old.items ++ map (found_at place) more.items) }
 {
+    found.reserve(more.len())?;
     for finding in more {
         found.push(Found { place, finding })?;
     }
