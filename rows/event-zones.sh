@@ -123,12 +123,11 @@ event_zones_both() {
 }
 
 # Rows of standard input: the escaped text of an event, what is reported about it without the option, and with it. All of them are in
-# one timer, each alone in its list, and the last event is valid.
+# one timer, each alone in its list, and the last event is valid. $1 is what is reported about the whole timer, if given.
 event_zones_messages() {
   local event without with option line number=1 code
   event_zones_file messages.timer '[Timer]\n'
-  : >"$event_zones_directory/findings.without"
-  : >"$event_zones_directory/findings.with"
+  printf '%s' "${1:+$1$'\n'}" | tee "$event_zones_directory/findings.with" >"$event_zones_directory/findings.without"
   while IFS='|' read -r event without with; do
     printf 'OnCalendar=\nOnCalendar=%b\n' "$event" >>"$event_zones_directory/messages.timer"
     line="messages.timer:$((number + 2)): "
@@ -532,14 +531,14 @@ END
 # What `check` reports about events with a zone: their other errors, and the warnings, by the clock of their own zone.
 event_zones_of_findings() {
   local zone
-  event_zones_messages <<'END'
+  event_zones_messages 'messages.timer:18: warning: systemd ends the line at a carriage return or NUL byte [LineEnd]' <<'END'
 daily Europe/Oslo|error: time zone in 'daily Europe/Oslo': only UTC is supported without --event-zones [Zone]|
 12:00 europe/oslo|error: time zone in '12:00 europe/oslo': only UTC is supported without --event-zones [Zone]|error: time zone in '12:00 europe/oslo': unknown [Zone]
 24:00 Europe/Oslo|error: time zone in '24:00 Europe/Oslo': only UTC is supported without --event-zones [Zone]|error: hour in '24:00 Europe/Oslo': out of range 0-23 [OutOfRange]
 Foo 12:00 Europe/Oslo|error: time zone in 'Foo 12:00 Europe/Oslo': only UTC is supported without --event-zones [Zone]|error: weekday in 'Foo 12:00 Europe/Oslo': unknown name [BadName]
 *:0/25 Europe/Oslo|error: time zone in '*:0/25 Europe/Oslo': only UTC is supported without --event-zones [Zone]|warning: systemd 252 may pass over starts of '*:0/25 Europe/Oslo': give the step an end [SkippedStarts]
 2011-12-30 12:00 Pacific/Apia|error: time zone in '2011-12-30 12:00 Pacific/Apia': only UTC is supported without --event-zones [Zone]|warning: never starts [NeverStarts]
-12:00 \\\nEurope/Oslo\r|error: time zone in '12:00  Europe/Oslo': only UTC is supported without --event-zones [Zone]|
+12:00 \\\nEurope/Oslo\r|error: time zone in '12:00  Europe/Oslo': only UTC is supported without --event-zones [Zone]|warning: systemd 252 rejects '12:00  Europe/Oslo': write one space between words [SystemdRejects]
 12:00 Europe/Oslo\r\r|error: time zone in '12:00 Europe/Oslo\x0d': only UTC is supported without --event-zones [Zone]|error: time zone in '12:00 Europe/Oslo\x0d': unknown [Zone]
 END
 
@@ -552,7 +551,10 @@ END
   event_zones_file apia.timer '[Timer]\nOnCalendar=2011-12-30 12:00\n'
   for zone in '' UTC Pacific/Apia Europe/Oslo; do
     {
-      printf 'never.timer:%s: warning: never starts [NeverStarts]\n' 2 5 7 8 10
+      printf 'never.timer:%s: warning: never starts [NeverStarts]\n' 2 5 7 8
+      echo "never.timer:8: warning: systemd 252 rejects '2999-12-31 22:00 America/New_York': years end at 2199 [SystemdRejects]"
+      echo "never.timer:9: warning: systemd 252 rejects '2999-12-31 18:00 America/New_York': years end at 2199 [SystemdRejects]"
+      echo 'never.timer:10: warning: never starts [NeverStarts]'
       [ "$zone" != Pacific/Apia ] || echo 'apia.timer:2: warning: never starts [NeverStarts]'
     } >"$event_zones_directory/findings"
     event_zones_print check --event-zones ${zone:+--zone "$zone"} never.timer apia.timer <"$event_zones_directory/findings"

@@ -205,17 +205,22 @@ largest_zone_file() {
 # in each line of a timer.
 largest_checks() {
   yes '@' | largest_file faults 1048576
-  seq -f "faults:%.0f: error: unknown word '@' [UnknownWord]" 524288 >"$work/findings.wanted"
+  # cron reads 10,003 lines of a crontab
+  seq -f "faults:%.0f: error: unknown word '@' [UnknownWord]" 524288 |
+    sed '10004i faults:10004: warning: cron ignores this file: more than 10003 lines [CronIgnores]' >"$work/findings.wanted"
   largest_run faults 0 check --crontab faults
   compare "check of 524,288 faults" "$work/findings.wanted" /dev/null 1
   yes '* * * * * x' | largest_file checked 1048572
   largest_run checked 0 check --crontab checked
-  compare_texts "check of 87,381 jobs" $'checked:1001: error: more than 1000 jobs [Full]\n' '' 1
+  compare_texts "check of 87,381 jobs" \
+    $'checked:1001: error: more than 1000 jobs [Full]\nchecked:10004: warning: cron ignores this file: more than 10003 lines [CronIgnores]\n' '' 1
   { yes '0 0 1 * 1 x' | head -n 87380 && printf '60 * * * * x'; } | largest_file checked 1048576
   {
     seq -f 'checked:%.0f: warning: starts on days that match either day field, not both [EitherDay]' 87380 |
-      sed '1001i checked:1001: error: more than 1000 jobs [Full]'
+      sed -e '1001i checked:1001: error: more than 1000 jobs [Full]' \
+        -e '10004i checked:10004: warning: cron ignores this file: more than 10003 lines [CronIgnores]'
     echo "checked:87381: error: minute '60': out of range 0-59 [OutOfRange]"
+    echo 'checked:87381: warning: cron ignores this file: no newline at its end [CronIgnores]'
   } >"$work/findings.wanted"
   largest_run checked 0 check --crontab checked
   compare "check of 87,380 warnings, and an error after them" "$work/findings.wanted" /dev/null 1
@@ -241,7 +246,9 @@ largest_quotes() {
   { yes 1 | tr -d '\n' | head -c 1048566 && printf ' * * * * x'; } | largest_file digits 1048576
   largest_run digits 0 check --crontab digits
   compare_texts "check of a minute of 1,048,566 digits" \
-    "digits:1: error: minute '$quoted'...: not a number of one to four digits [BadNumber]"$'\n' '' 1
+    "digits:1: error: minute '$quoted'...: not a number of one to four digits [BadNumber]"$'\n'"$(
+      echo 'digits:1: warning: cron ignores this file: no newline at its end [CronIgnores]'
+    )"$'\n' '' 1
   { printf '[Timer]\nOnCalendar=' && yes 1 | tr -d '\n'; } | largest_file on.timer 1048576
   largest_run on.timer 0 check on.timer
   compare_texts "check of an event of 1,048,557 digits" \

@@ -68,9 +68,9 @@ etc/crontab= C/a= S/b= ||
 etc/crontab=0\x204\x20*\x20*\x20*\x20root\x20a\n C/a=@daily\x20root\x20b\n S/u=@daily\x20c\n *a.timer U/a.timer=DAILY||
 etc/crontab=0\x2024\x20*\x20*\x20*\x20root\x20a\n|etc/crontab,1,OutOfRange,hour '24': out of range 0-23|
 etc/crontab=@daily\x20root\n|etc/crontab,1,NoCommand,expected a user and a command|
-C/a=\n#\x20x\n@daily\x20root\n@daily\x20root\x20a|C/a,3,NoCommand,expected a user and a command|
-S/u=@daily\n@daily\x20a|S/u,1,NoCommand,no command|
-S/u=@daily\x20a\n@hour\x20a|S/u,2,UnknownWord,unknown word '@hour'|
+C/a=\n#\x20x\n@daily\x20root\n@daily\x20root\x20a\n|C/a,3,NoCommand,expected a user and a command|
+S/u=@daily\n@daily\x20a\n|S/u,1,NoCommand,no command|
+S/u=@daily\x20a\n@hour\x20a\n|S/u,2,UnknownWord,unknown word '@hour'|
 S/u=MAILTO\n|S/u,1,BadSetting,expected NAME=VALUE, or five fields and a command|
 S/u=1\x202\n\n*\x20*\x20*\x20*\x208\x20a\n|S/u,1,WrongParts,expected five fields and a command;S/u,3,OutOfRange,day of week '8': out of range 0-7|
 T/u=@daily\n|T/u,1,NoCommand,no command|

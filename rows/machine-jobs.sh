@@ -113,7 +113,7 @@ U/a.timer=[Timer]\nOnBootSec=5\n|upcoming --all|none>a.timer>a.service||monotoni
 *a.timer U/a.timer=[Timer]\nOnBootSec=5\nOnCalendar=daily\n|upcoming --utc --after 2024-03-31T00:00:00Z|2024-04-01T00:00:00Z>a.timer>a.service||
 *a.timer U/a.timer=[Timer]\nOnBootSec=5\n E/a.timer.d/x.conf=[Timer]\nAccuracySec=1h\n|upcoming|none>a.timer>a.service||monotonic U/a.timer
 *a@b.timer *a@c.timer U/a@.timer=[Timer]\nOnBootSec=5\n N/a@.service|upcoming|none>a-b.timer>a-b.service;none>a-c.timer>a-c.service||monotonic U/a@.timer
-*a@OnBootSec.timer *a@b.timer U/a@.timer=[Timer]\n%i=5\n N/a@.service|upcoming|none>a-OnBootSec.timer>a-OnBootSec.service;none>a-b.timer>a-b.service||monotonic U/a@.timer
+*a@OnBootSec.timer *a@b.timer U/a@.timer=[Timer]\n%i=5\n N/a@.service|upcoming|none>a-OnBootSec.timer>a-OnBootSec.service||monotonic U/a@.timer,not U/a@.timer systemd 252 rejects this timer: it has no valid trigger
 etc/anacrontab F/atjobs/a root/.config/systemd/user/c.timer *b.timer U/b.timer=[Timer]\nUnit=x.service\n *a.timer U/a.timer=[Timer]\nOnBootSec=5\n|upcoming|none>a.timer>a.service||anacron,missing U/b.timer x.service,monotonic U/a.timer,at F/atjobs,user root/.config/systemd/user
 *b.timer *a.timer U/a.timer=[Timer]\nOnBootSec=5\n E/b.timer=[Timer]\nOnActiveSec=5|upcoming|none>a.timer>a.service;none>b.timer>b.service||monotonic U/a.timer,monotonic E/b.timer
 *a.timer U/a.timer=[Timer]\nOnBootSec=5\n#\xff\n|upcoming||root/usr/lib/systemd/system/a.timer: error: not UTF-8 [NotUtf8]|
@@ -121,9 +121,9 @@ ROWS
 
 # ---- what is skipped
 
-# An error has the path and the line of the file that it is in, and the other jobs are planned.
+# An error has the path and the line of the file that it is in, and the jobs of other files are planned.
 program_answers <<'ROWS'
-S/u=x\n@daily\x20a\n|upcoming --utc --after 2024-03-31T00:00:00Z|2024-04-01T00:00:00Z>u:2>a|root/var/spool/cron/crontabs/u:1: error: expected NAME=VALUE, or five fields and a command [BadSetting]|
+S/u=x\n@daily\x20a\n|upcoming --utc --after 2024-03-31T00:00:00Z||root/var/spool/cron/crontabs/u:1: error: expected NAME=VALUE, or five fields and a command [BadSetting]|not S/u cron ignores this file because of line 1
 *a.timer U/a.timer=DAILY E/a.timer.d/x.conf=\n[Timer]\nOnCalendar=24:00\n S/u=@daily\x20a\n|upcoming --utc --after 2024-03-31T00:00:00Z|2024-04-01T00:00:00Z>u:1>a;2024-04-01T00:00:00Z>a.timer>a.service|root/etc/systemd/system/a.timer.d/x.conf:3: error: hour in '24:00': out of range 0-23 [OutOfRange]|
 C/a/ S/u=@daily\x20a\n|upcoming --utc --after 2024-03-31T00:00:00Z|2024-04-01T00:00:00Z>u:1>a||C/a not readable
 *a.timer E/a.timer= U/a.timer|upcoming --after 2024-03-31T00:00:00Z|||E/a.timer masked
@@ -131,12 +131,12 @@ ROWS
 
 # With --strict the first error stops the answer. What is reported of the machine stays.
 program_answers <<'ROWS'
-S/u=x\n@daily\x20a\ny\n|upcoming --strict --utc --after 2024-03-31T00:00:00Z||root/var/spool/cron/crontabs/u:1: error: expected NAME=VALUE, or five fields and a command [BadSetting]|
-S/u=x\n@daily\x20a\ny\n|--strict --after 2024-03-31T00:00:00Z||root/var/spool/cron/crontabs/u:1: error: expected NAME=VALUE, or five fields and a command [BadSetting]|
-S/u=x\n@daily\x20a\ny\n|plan --strict --limit 1 --since 2024-03-31T00:00:00Z --until 2024-04-03T00:00:00Z||root/var/spool/cron/crontabs/u:1: error: expected NAME=VALUE, or five fields and a command [BadSetting]|
-S/u=x\n@daily\x20a\ny\n|quiet --strict --limit 1 --since 2024-03-31T00:00:00Z --until 2024-04-03T00:00:00Z||root/var/spool/cron/crontabs/u:1: error: expected NAME=VALUE, or five fields and a command [BadSetting]|
+S/u=x\n@daily\x20a\ny\n|upcoming --strict --utc --after 2024-03-31T00:00:00Z||root/var/spool/cron/crontabs/u:1: error: expected NAME=VALUE, or five fields and a command [BadSetting]|not S/u cron ignores this file because of line 1
+S/u=x\n@daily\x20a\ny\n|--strict --after 2024-03-31T00:00:00Z||root/var/spool/cron/crontabs/u:1: error: expected NAME=VALUE, or five fields and a command [BadSetting]|not S/u cron ignores this file because of line 1
+S/u=x\n@daily\x20a\ny\n|plan --strict --limit 1 --since 2024-03-31T00:00:00Z --until 2024-04-03T00:00:00Z||root/var/spool/cron/crontabs/u:1: error: expected NAME=VALUE, or five fields and a command [BadSetting]|not S/u cron ignores this file because of line 1
+S/u=x\n@daily\x20a\ny\n|quiet --strict --limit 1 --since 2024-03-31T00:00:00Z --until 2024-04-03T00:00:00Z||root/var/spool/cron/crontabs/u:1: error: expected NAME=VALUE, or five fields and a command [BadSetting]|not S/u cron ignores this file because of line 1
 *a.timer U/a.timer=DAILY E/a.timer.d/x.conf=\n[Timer]\nOnCalendar=24:00\n S/u=@daily\x20a\n|upcoming --strict --after 2024-03-31T00:00:00Z||root/etc/systemd/system/a.timer.d/x.conf:3: error: hour in '24:00': out of range 0-23 [OutOfRange]|
-C/a/ S/u=x\n|upcoming --strict --after 2024-03-31T00:00:00Z||root/var/spool/cron/crontabs/u:1: error: expected NAME=VALUE, or five fields and a command [BadSetting]|C/a not readable
+C/a/ S/u=x\n|upcoming --strict --after 2024-03-31T00:00:00Z||root/var/spool/cron/crontabs/u:1: error: expected NAME=VALUE, or five fields and a command [BadSetting]|C/a not readable,not S/u cron ignores this file because of line 1
 C/a/ S/u=@daily\x20a\n|upcoming --strict --utc --after 2024-03-31T00:00:00Z|2024-04-01T00:00:00Z>u:1>a||C/a not readable
 S/u=@daily\x20a\n|upcoming --strict --utc --after 2024-03-31T00:00:00Z|2024-04-01T00:00:00Z>u:1>a||
 ROWS

@@ -29,14 +29,14 @@ json_rows() {
 
 # ---- crontabs
 
-# The line is counted with empty lines, comments and settings, and with lines that are rejected.
+# The line is counted with empty lines, comments and settings. Cron ignores a file with a line that it rejects.
 json_rows <<'ROWS'
 C/p=@daily\x20root\x20a\n|upcoming --utc --after 2024-03-31T00:00:00Z|{"start":"2024-04-01T00:00:00Z","job":"p:1","path":"root/etc/cron.d/p","line":1,"user":"root","run":"a"}|
 C/p=#\x20x\nA=b\n\n@daily\x20root\x20a\n|upcoming --utc --after 2024-03-31T00:00:00Z|{"start":"2024-04-01T00:00:00Z","job":"p:4","path":"root/etc/cron.d/p","line":4,"user":"root","run":"a"}|
 etc/crontab=@daily\x20root\x20a\n|upcoming --utc --after 2024-03-31T00:00:00Z|{"start":"2024-04-01T00:00:00Z","job":"system:1","path":"root/etc/crontab","line":1,"user":"root","run":"a"}|
 S/u=\n@daily\x20a\n|upcoming --utc --after 2024-03-31T00:00:00Z|{"start":"2024-04-01T00:00:00Z","job":"u:2","path":"root/var/spool/cron/crontabs/u","line":2,"run":"a"}|
 T/u=@daily\x20a\n|upcoming --utc --after 2024-03-31T00:00:00Z|{"start":"2024-04-01T00:00:00Z","job":"u:1","path":"root/var/spool/cron/tabs/u","line":1,"run":"a"}|
-C/p=x\n@daily\x20root\x20a\n|upcoming --utc --after 2024-03-31T00:00:00Z|{"start":"2024-04-01T00:00:00Z","job":"p:2","path":"root/etc/cron.d/p","line":2,"user":"root","run":"a"}|root/etc/cron.d/p:1: error: expected NAME=VALUE, or five fields and a command [BadSetting]
+C/p=x\n@daily\x20root\x20a\n|upcoming --utc --after 2024-03-31T00:00:00Z||agenda: not planned: root/etc/cron.d/p: cron ignores this file because of line 1;root/etc/cron.d/p:1: error: expected NAME=VALUE, or five fields and a command [BadSetting]
 C/p=@reboot\x20root\x20a\n|upcoming --utc --after 2024-03-31T00:00:00Z|{"start":null,"job":"p:1","path":"root/etc/cron.d/p","line":1,"user":"root","run":"a"}|
 C/p>/opt/p opt/p=@daily\x20root\x20a\n|upcoming --utc --after 2024-03-31T00:00:00Z|{"start":"2024-04-01T00:00:00Z","job":"p:1","path":"root/etc/cron.d/p","line":1,"user":"root","run":"a"}|
 ROWS

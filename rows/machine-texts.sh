@@ -25,7 +25,7 @@ texts_jobs() {
 }
 
 # Rows of a root, and of the settings in its timers that are unknown: a path and a line, a blank and the setting, with `;` between
-# them and the escapes of printf. `check` warns about each.
+# them and the escapes of printf. `check` warns about each. Without a setting the line has a NUL byte.
 texts_settings() {
   local root settings setting path line
   local -a list
@@ -38,7 +38,11 @@ texts_settings() {
       machine_path "${path%:*}"
       program_shown "root/$path"
       path=${setting%% *}
-      echo "$text:${path##*:}: warning: unknown setting '$line' in [Timer] [UnknownKey]"
+      if [ "$setting" = "$path" ]; then
+        echo "$text:${path##*:}: warning: systemd ends the line at a carriage return or NUL byte [LineEnd]"
+      else
+        echo "$text:${path##*:}: warning: unknown setting '$line' in [Timer] [UnknownKey]"
+      fi
     done >"$work/out.wanted"
     program_run check --root root
     program_compare "the settings of '$root'" "$work/out.wanted" /dev/null 0
@@ -69,7 +73,6 @@ C/a>/opt/b.c opt/b.c=JOB|a:1 root A
 C/a>../crontab.x etc/crontab.x=JOB|a:1 root A
 etc/cron.d>/opt/c opt/c/a>../x opt/x=JOB|a:1 root A
 etc/cron.d>../../../out.d out.d/a=JOB|a:1 root A
-S/a>/opt/b opt/b=OWN|a:1 A
 var/spool>/opt/s opt/s/cron/crontabs/a=OWN|a:1 A
 *a.timer E/a.timer>/opt/b opt/b=EVENT|a.timer A.service
 *a.timer E/a.timer>../../../../../outside outside=EVENT|a.timer A.service
@@ -79,7 +82,7 @@ etc/systemd/system>/opt/u opt/u/x.target.wants/a.timer>b opt/u/a.timer=EVENT|a.t
 *a.timer U/a.timer=[Timer]\nUnit=A.service\n U/a.timer.d/x.conf>/opt/x opt/x=EVENT|a.timer A.service
 *a.timer U/a.timer=[Timer]\nUnit=A.service\n E/a.timer.d/x.conf>../../../../../../../opt/x opt/x=EVENT|a.timer A.service
 *a.timer usr/lib/systemd>/opt/s opt/s/system/a.timer.d/x.conf=EVENT opt/s/system/a.timer=[Timer]\n|a.timer A.service
-etc/crontab>/opt/x opt/x=JOB C/a>../../opt/x S/b>/opt/y opt/y=OWN|system:1 root A;a:1 root A;b:1 A
+etc/crontab>/opt/x opt/x=JOB C/a>../../opt/x|system:1 root A;a:1 root A
 ROWS
 
 # ---- the path and the line of a finding
@@ -92,12 +95,12 @@ texts_settings <<'ROWS'
 *a@b.timer U/a@.timer=DAILYp%i=1\n E/a@b.timer.d/x.conf=[Timer]\n%n=1\n|U/a@.timer:3 pb;E/a@b.timer.d/x.conf:2 a@b.timer
 *a@b.timer *a@c.timer U/a@.timer=DAILY%i=1\n|U/a@.timer:3 b;U/a@.timer:3 c
 *a:1.timer *a.timer U/a:1.timer=DAILYp=1\n U/a.timer=DAILYq=1\n U/timer.d/x:2.conf=[Timer]\nr=1\n|U/a.timer:3 q;U/timer.d/x:2.conf:2 r;U/a:1.timer:3 p;U/timer.d/x:2.conf:2 r
-*a.timer U/a.timer=DAILYp=\0 E/a.timer.d/x.conf=[Timer]\nr=1\n|U/a.timer:3 p;E/a.timer.d/x.conf:2 r
-*a.timer U/a.timer=DAILYp=1\n\0\nq=1 E/a.timer.d/x.conf=[Timer]\n\nr=1|U/a.timer:3 p;U/a.timer:5 q;E/a.timer.d/x.conf:3 r
-*a.timer U/a.timer=DAILYp=1\n E/a.timer.d/x.conf=[Timer]\nq=\0 E/a.timer.d/y.conf=[Timer]\nr=1|U/a.timer:3 p;E/a.timer.d/x.conf:2 q;E/a.timer.d/y.conf:2 r
+*a.timer U/a.timer=DAILYp=\0 E/a.timer.d/x.conf=[Timer]\nr=1\n|U/a.timer:3;U/a.timer:3 p;E/a.timer.d/x.conf:2 r
+*a.timer U/a.timer=DAILYp=1\n\0\nq=1 E/a.timer.d/x.conf=[Timer]\n\nr=1|U/a.timer:4;U/a.timer:3 p;U/a.timer:5 q;E/a.timer.d/x.conf:3 r
+*a.timer U/a.timer=DAILYp=1\n E/a.timer.d/x.conf=[Timer]\nq=\0 E/a.timer.d/y.conf=[Timer]\nr=1|E/a.timer.d/x.conf:2;U/a.timer:3 p;E/a.timer.d/x.conf:2 q;E/a.timer.d/y.conf:2 r
 *a.timer E/a.timer>/opt/x opt/x=DAILYp=1 E/a.timer.d/x.conf=[Timer]\nr=1\n|E/a.timer:3 p;E/a.timer.d/x.conf:2 r
 *a.timer U/a.timer=DAILYp=1 E/a.timer.d/x.conf>/opt/x opt/x=[Timer]\nq=1 E/a.timer.d/y.conf=[Timer]\nr=1|U/a.timer:3 p;E/a.timer.d/x.conf:2 q;E/a.timer.d/y.conf:2 r
-*a@b.timer U/a@.timer=DAILY%i=\0 E/a@.timer.d/x.conf=[Timer]\nr=1|U/a@.timer:3 b;E/a@.timer.d/x.conf:2 r
+*a@b.timer U/a@.timer=DAILY%i=\0 E/a@.timer.d/x.conf=[Timer]\nr=1|U/a@.timer:3;U/a@.timer:3 b;E/a@.timer.d/x.conf:2 r
 *a.timer E/a.timer>../../../opt/x opt/x=DAILYp=1\n E/a.timer.d/x.conf>/opt/y opt/y=[Timer]\nq=1\n|E/a.timer:3 p;E/a.timer.d/x.conf:2 q
 *a.timer lib>usr/lib U/a.timer=DAILYp=1\n|B/a.timer:3 p
 *a.timer U/a.timer=DAILYp:1:\x20q=1\n E/a.timer.d/x\x20y.conf=[Timer]\nr:\x20s=1\n|U/a.timer:3 p:1: q;E/a.timer.d/x\x20y.conf:2 r: s

@@ -119,8 +119,8 @@ program_answers <<'ROWS'
 etc/localtime=CET etc/crontab=30\x202\x20*\x20*\x20*\x20root\x20a\n|upcoming --after 2024-03-30T12:00:00Z|2024-03-31T03:00:00+02:00>system:1>root a||
 etc/localtime=CET etc/crontab=30\x202\x20*\x20*\x20*\x20root\x20a\n|upcoming --after 2024-10-27T00:30:00Z|2024-10-28T02:30:00+01:00>system:1>root a||
 etc/localtime>/usr/share/zoneinfo/No/Where usr/share/zoneinfo/No/Where=CET *a.timer U/a.timer=[Timer]\nOnCalendar=02:30\n|upcoming --after 2024-03-30T12:00:00Z|2024-04-01T02:30:00+02:00>a.timer>a.service||
-etc/localtime=CET S/u=0\x206\x20*\x20*\x20*\x20x|upcoming --zone UTC --after 2024-07-01T00:00:00Z|2024-07-01T06:00:00+00:00>u:1>x||
-etc/localtime=CET S/u=0\x206\x20*\x20*\x20*\x20x|quiet --since 2024-07-01T00:00:00Z --until 2024-07-01T06:00:00Z|2024-07-01T02:00:00+02:00>2024-07-01T06:00:00+02:00>14400;2024-07-01T06:00:00+02:00>2024-07-01T08:00:00+02:00>7200||
+etc/localtime=CET S/u=0\x206\x20*\x20*\x20*\x20x\n|upcoming --zone UTC --after 2024-07-01T00:00:00Z|2024-07-01T06:00:00+00:00>u:1>x||
+etc/localtime=CET S/u=0\x206\x20*\x20*\x20*\x20x\n|quiet --since 2024-07-01T00:00:00Z --until 2024-07-01T06:00:00Z|2024-07-01T02:00:00+02:00>2024-07-01T06:00:00+02:00>14400;2024-07-01T06:00:00+02:00>2024-07-01T08:00:00+02:00>7200||
 ROWS
 
 # The zones of events: the other events of a timer stay if the zone of one is unknown.

@@ -240,7 +240,8 @@ package_make_files() {
   echo '30 1 * * * dump-database' >"$package_dir/jobs"
   echo '0 4 * * * root b' >"$package_dir/root/etc/crontab"
   printf '[Unit]\nWants=timers.target\n' >"$units/default.target"
-  printf '[Unit]\n' | tee "$units/timers.target" >"$units/a.service"
+  printf '[Unit]\n' >"$units/timers.target"
+  printf '[Service]\nExecStart=/bin/a\n' >"$units/a.service"
   printf '[Timer]\nOnCalendar=3:00\n' >"$units/a.timer"
   ln -s /usr/lib/systemd/system/a.timer "$enabled/a.timer"
 }

@@ -438,11 +438,14 @@ END
   zones_print 0 check --crontab checked skipped.timer edges.timer <<'END'
 checked:3: warning: starts on days that match either day field, not both [EitherDay]
 checked:4: warning: never starts [NeverStarts]
+edges.timer:2: warning: systemd 252 rejects '2999-12-31 22:00': years end at 2199 [SystemdRejects]
 END
   zones_print 0 check edges.timer --zone America/New_York <<'END'
 edges.timer:2: warning: never starts [NeverStarts]
+edges.timer:2: warning: systemd 252 rejects '2999-12-31 22:00': years end at 2199 [SystemdRejects]
 END
   zones_print 0 check --zone=Asia/Tokyo edges.timer <<'END'
+edges.timer:2: warning: systemd 252 rejects '2999-12-31 22:00': years end at 2199 [SystemdRejects]
 edges.timer:3: warning: never starts [NeverStarts]
 END
 }

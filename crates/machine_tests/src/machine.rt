@@ -31,10 +31,10 @@ d usr/lib/systemd/system
 f usr/lib/systemd/system/timers.target [Unit]|
 f usr/lib/systemd/system/a.timer [Timer]|
 f usr/lib/systemd/system/b@.timer [Timer]|OnCalendar=%i|
-f usr/lib/systemd/system/b@.service [Service]|
+f usr/lib/systemd/system/b@.service [Service]|ExecStart=/bin/b|
 f usr/lib/systemd/system/c.timer [Timer]|
 f usr/lib/systemd/system/d.timer [Timer]|OnCalendar=%i|
-f usr/lib/systemd/system/d.service [Service]|
+f usr/lib/systemd/system/d.service [Service]|ExecStart=/bin/d|
 d var
 d var/spool
 d var/spool/at

@@ -117,7 +117,7 @@ none\tcron:3\ta
 0 2 agenda|check|--crontab|unmeant|n.timer
 unmeant:1: warning: never starts [NeverStarts]
 unmeant:2: warning: starts on days that match either day field, not both [EitherDay]
-n.timer: warning: no OnCalendar= event, so no start is planned [NoEvents]
+n.timer: warning: systemd 252 rejects this timer: it has no valid trigger [TimerRejected]
 ";
 
 /// A request that skips a file, so that its status is 3 in any case.
