@@ -7,3 +7,5 @@ pub mod MachineNext
 pub mod Outcome
 pub mod Program
 pub mod Requests
+pub mod Describe
+pub mod MachineDescribe

@@ -13,6 +13,7 @@ use Rattle.plan_machine.specs.declared.machine.Machine.{Machine}
 use Rattle.plan_machine.specs.declared.NotPlanned.{NotPlanned}
 use Rattle.agenda_arguments.specs.declared.MachineRequest.{MachineRequest}
 use Rattle.agenda_arguments.specs.declared.MachineCheck.{MachineCheck}
+use Rattle.agenda_arguments.specs.declared.MachineDescribe.{MachineDescribe}
 use Rattle.agenda_arguments.specs.declared.MachineJobs.{MachineJobs}
 use Rattle.agenda_arguments.specs.declared.MachineQuestion.{MachineQuestion}
 use Rattle.agenda_arguments.specs.declared.MachineQuestion.TheVariants as question
@@ -23,6 +24,7 @@ use Rattle.agenda_faults.specs.declared.faults.RunFault.TheVariants as run
 use Rattle.plan_collect.specs.declared.CollectFault.TheVariants as collect
 use Rattle.plan_collect.specs.declared.PlanFault.TheVariants as plan
 use Rattle.agenda_commands.specs.Check.{reported}
+use Rattle.agenda_commands.specs.Describe.{description_output}
 use Rattle.agenda_commands.specs.Form.{AnswersForm, origin_of}
 use Rattle.agenda_commands.specs.Remark.{remark_of}
 use Rattle.agenda_commands.specs.declared.RemarkedAnswer.{RemarkedAnswer}
@@ -51,6 +53,7 @@ use Rattle.agenda_answers.specs.declared.machine_answer.Printout.TheVariants as 
 use Rattle.agenda_answers.specs.Answer.{Printed, StreamChange}
 use Rattle.agenda_inputs.specs.EventZones.{zones_by}
 use Rattle.agenda_inputs.specs.Files.{Held, most_read}
+use Rattle.agenda_answers.specs.Describe.{described_as}
 use Rattle.agenda_answers.specs.Formats.{form_made, unnamed_zone}
 use Rattle.agenda_answers.specs.Host.{KnownHost}
 use Rattle.agenda_inputs.specs.MachineFiles.{machine_files}
@@ -280,6 +283,34 @@ shows_jobs held host dir jobs machine unplanned planned = do
   zones ← machine_zones held host.tree clock.clock (sources_of machine.sources.items)
   shows_jobs_in dir jobs host goal machine unplanned planned clock zones
 
+-- the descriptions of the jobs that are left, about which nothing is said
+abbrev pub descriptions_said :
+    Machine → (paths : List SourcePath) → List Found → Form → TimeZones → (planned : List Source) → (kept : List JobParts) → Step Outcome
+descriptions_said machine paths errors form zones planned kept = do
+  answer ← described_as (description_output form zones planned (Ok kept))
+  gives (outcome_of paths errors (machine_status machine (is_all_clean errors)) answer)
+
+-- the same, as an answer about which nothing is said
+abbrev pub unremarked : Step Outcome → Step (Outcome × Option (List ℕ))
+unremarked step = do
+  outcome ← step
+  gives (outcome, None)
+
+-- `describe`: the zone is read first, and then the zones of events. Errors are those of all sources, and jobs those of the sources that
+-- are loaded
+abbrev pub shows_descriptions :
+    Held → KnownHost → (dir : List ℕ) → MachineDescribe → Machine → (unplanned : List NotPlanned) → (planned : List Source) → Step Shown
+shows_descriptions held host dir describe machine unplanned planned = do
+  clock ← machine_clock held host.tree (root_of dir) describe.zone
+  zones ← machine_zones held host.tree clock.clock (sources_of machine.sources.items)
+  form ← form_made (record { format = record { json = describe.json; local = false }; table = describe.table }) None host.frame clock.name
+      (unnamed_zone clock.is_of_file) zones.clock
+  errors ← computes (errors_in machine zones (sources_of machine.sources.items))
+  rest ← jobs_rest (is_stopped describe.strict errors) (paths_of false (root_of dir) machine.sources.items) errors
+      (unremarked (descriptions_said machine (paths_of false (root_of dir) machine.sources.items) errors form zones planned
+      (kept_in describe.except zones planned)))
+  gives (shown_with dir machine unplanned clock.is_unknown rest)
+
 -- the machine that the program runs on, below a root
 abbrev pub host_below : KnownHost → (root : List ℕ) → KnownHost
 host_below host root = record { tree = tree_below host.tree root; time = host.time; frame = host.frame }
@@ -291,6 +322,9 @@ shows held host dir (question.Jobs jobs) machine = do
   unplanned ← computes (unplanned_jobs machine)
   shows_jobs held (host_below host (root_of dir)) dir jobs machine unplanned (loaded_sources machine)
 shows held host dir (question.Sources json) machine = shows_sources dir json machine
+shows held host dir (question.Describe describe) machine = do
+  unplanned ← computes (unplanned_jobs machine)
+  shows_descriptions held (host_below host (root_of dir)) dir describe machine unplanned (loaded_sources machine)
 shows held host dir (question.Check check) machine = shows_findings held (tree_below host.tree (root_of dir)) dir check machine
 
 -- the same, once the machine's sources are found

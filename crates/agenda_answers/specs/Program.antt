@@ -10,11 +10,13 @@ use Rattle.agenda_faults.specs.declared.faults.RunFault.TheVariants.{NoMemory}
 use Rattle.agenda_sources.specs.declared.SourcePath.{SourcePath}
 use Rattle.agenda_commands.specs.declared.Goal.{Goal}
 use Rattle.agenda_answers.specs.declared.requests.Request.{Request}
-use Rattle.agenda_answers.specs.declared.requests.Request.TheVariants.{Starts, Jobs, Check, Steps, Explain, Machine, MachineNext}
+use Rattle.agenda_answers.specs.declared.requests.Request.TheVariants.{Starts, Jobs, Check, Describe, DescribeJobs, Steps, Explain, Machine, MachineNext, MachineDescribe}
 use Rattle.agenda_answers.specs.Answer.{Exits, Leaves, Printed, StreamChange, check_ends, explain_ends, next_ends, steps_ends, usage_ends}
 use Rattle.agenda_inputs.specs.Files.{Held}
 use Rattle.agenda_answers.specs.Host.{KnownHost}
 use Rattle.agenda_answers.specs.Machine.{AnswersMachine}
+use Rattle.agenda_answers.specs.Describe.{AnswersDescriptions, describe_ends}
+use Rattle.agenda_answers.specs.MachineDescribe.{AnswersRule}
 use Rattle.agenda_answers.specs.MachineNext.{AnswersNext}
 use Rattle.agenda_answers.specs.Outcome.{AnswersJobs, Outcome, ReportsOrFails, outcome_by}
 use Rattle.agenda_answers.specs.Requests.{request_of, stopping_jobs}
@@ -34,10 +36,13 @@ abbrev pub AnswersRequest : Held → KnownHost → Request → Answering
 AnswersRequest held host (Starts starts) = AnswersBy (next_ends held starts) []
 AnswersRequest held host (Jobs goal jobs) = AnswersJobs held goal jobs
 AnswersRequest held host (Check zones sources policy json) = AnswersBy (check_ends held zones sources policy json) sources
+AnswersRequest held host (Describe rule zones json) = AnswersBy (describe_ends held rule zones json) []
+AnswersRequest held host (DescribeJobs jobs) = AnswersDescriptions held jobs
 AnswersRequest held host (Steps file) = AnswersBy (steps_ends held file) []
 AnswersRequest held host (Explain code) = AnswersBy (explain_ends code) []
 AnswersRequest held host (Machine machine) = AnswersMachine held host machine
 AnswersRequest held host (MachineNext next) = AnswersNext held host next
+AnswersRequest held host (MachineDescribe rule json) = AnswersRule held host rule json
 
 -- the same, unless the request is rejected
 abbrev pub AnswersOrFails : Held → KnownHost → Result Request Failure → Answering

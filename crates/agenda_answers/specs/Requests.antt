@@ -6,7 +6,7 @@ use Rattle.plan_sets.specs.declared.MomentFault.{MomentFault}
 use Rattle.plan_collect.specs.Span.{Bounds}
 use Rattle.plan_collect.specs.declared.SpanFault.TheVariants.{Backwards}
 use Rattle.agenda_arguments.specs.declared.Ask.{Ask}
-use Rattle.agenda_arguments.specs.declared.Ask.TheVariants.{Next, Plan, Upcoming, Quiet, Check, Steps, Explain, Machine, MachineNext}
+use Rattle.agenda_arguments.specs.declared.Ask.TheVariants.{Next, Plan, Upcoming, Quiet, Check, Describe, DescribeJobs, Steps, Explain, Machine, MachineNext, MachineDescribe}
 use Rattle.agenda_arguments.specs.declared.JobsRequest.{JobsRequest}
 use Rattle.agenda_arguments.specs.declared.PlanRequest.{PlanRequest}
 use Rattle.agenda_faults.specs.declared.faults.Failure.TheVariants.{Moment, Span}
@@ -62,10 +62,13 @@ request_of (Quiet plan least) = do
   planning ← planning_of plan
   gives (request.Jobs (goal.Quiet planning least) plan.jobs)
 request_of (Check zones sources policy json) = gives (request.Check zones sources policy json)
+request_of (Describe rule zones json) = gives (request.Describe rule zones json)
+request_of (DescribeJobs jobs) = gives (request.DescribeJobs jobs)
 request_of (Steps file) = gives (request.Steps file)
 request_of (Explain code) = gives (request.Explain code)
 request_of (Machine machine) = gives (request.Machine machine)
 request_of (MachineNext next) = gives (request.MachineNext next)
+request_of (MachineDescribe rule json) = gives (request.MachineDescribe rule json)
 
 -- the same jobs for a request that doesn't keep going
 abbrev pub stopping_jobs : JobsRequest → JobsRequest

@@ -5,10 +5,12 @@ ghost use Rattle.agenda_answers.specs.Answer.{Exits, Leaves, SaysNotUtf8, check_
 ghost use Rattle.agenda_answers.specs.Host.{host_of};
 ghost use Rattle.agenda_answers.specs.Program.{Answers, AnswersArguments, AnswersAsk, AnswersRequest};
 
+use crate::describe::{answer_descriptions, describe};
 use crate::formats::{UTC, make_format};
 use crate::host::Host;
 use crate::jobs::answer_jobs;
 use crate::machine::answer_machine;
+use crate::machine_describe::answer_machine_describe;
 use crate::machine_next::answer_machine_next;
 use crate::requests::{Request, StartsRequest, request_of};
 use agenda_arguments::{Ask, UsageFault, ZonesRequest, read_words};
@@ -128,10 +130,17 @@ fn answer_request<R: Threads + Wait + Sync, F: Files, T: Complete, O: Stream, E:
             let done = check(alloc, zones, sources, policy, *json, files, out);
             end(done, sources.as_slice(), err)
         }
+        Request::Describe { rule, zones, json } => {
+            end(describe(alloc, rule, zones, *json, files, out), &[], err)
+        }
+        Request::DescribeJobs(jobs) => answer_descriptions(alloc, jobs, files, out, err),
         Request::Steps { file } => end(steps(alloc, file, files, out), &[], err),
         Request::Explain(code) => end(status_after(run_explain(*code, out)), &[], err),
         Request::Machine(machine) => answer_machine(rt, alloc, machine, files, host, out, err),
         Request::MachineNext(next) => answer_machine_next(alloc, next, files, host, out, err),
+        Request::MachineDescribe { rule, json } => {
+            answer_machine_describe(alloc, rule, *json, files, host, out, err)
+        }
     }
 }
 
@@ -165,7 +174,7 @@ pub(crate) fn end<S: Stream>(done: Result<u8, Failure>, sources: &[SourcePath], 
 }
 
 // Returns the exit status after a command that prints a text, or its failure.
-fn status_after(run: Result<(), RunFault>) -> Result<u8, Failure>
+pub(crate) fn status_after(run: Result<(), RunFault>) -> Result<u8, Failure>
     ensures { result ≡ status_after run }
 {
     match run {

@@ -157,7 +157,7 @@ pub(crate) fn report<O: Stream, E: Stream>(
 }
 
 // Returns the exit status of an answer after what is skipped.
-fn skipped_status(unread: &[SourcePath], errors: &[Found]) -> u8
+pub(crate) fn skipped_status(unread: &[SourcePath], errors: &[Found]) -> u8
     ensures { result ≡ skipped_status unread.now errors.now }
 {
     if !unread.is_empty() {

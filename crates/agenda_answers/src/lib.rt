@@ -5,11 +5,13 @@
 #![tactic(auto)]
 
 mod answers;
+mod describe;
 mod formats;
 mod host;
 mod jobs;
 mod machine;
 mod machine_answer;
+mod machine_describe;
 mod machine_goal;
 mod machine_next;
 mod requests;

@@ -17,6 +17,7 @@ use crate::formats::{FormRequest, make_form, unnamed_zone};
 use crate::host::Host;
 use crate::jobs::{Outcome, settled};
 use crate::machine_answer::{MachineAnswer, Printout, Site, Skipped, show, status_of};
+use crate::machine_describe::descriptions_answer;
 use crate::machine_goal::goal_at;
 use agenda_arguments::{MachineCheck, MachineJobs, MachineQuestion, MachineRequest};
 use agenda_commands::{Form, Goal, PreparedAnswer, RemarkedAnswer, are_warnings, prepare_remarked};
@@ -97,6 +98,15 @@ fn make_answer<'a, R: Threads + Wait + Sync, F: Files, T: Complete>(
             },
             printout: Printout::Sources { json: *json },
         }),
+        MachineQuestion::Describe(describe) => {
+            let host = Host {
+                tree: &below,
+                time: host.time,
+                frame: host.frame,
+            };
+            let loaded = with_loaded(alloc, machine)?;
+            descriptions_answer(alloc, files, &host, dir, describe, loaded)
+        }
         MachineQuestion::Check(check) => check_answer(alloc, files, &below, dir, check, machine),
     }
 }
@@ -184,7 +194,7 @@ fn check_answer<'a, F: Files, T: Tree>(
 }
 
 // Reads the time zones that the events of a machine's sources end with, and the accuracy of its timers.
-fn machine_zones<F: Files, T: Tree>(
+pub(crate) fn machine_zones<F: Files, T: Tree>(
     alloc: Global,
     files: &mut F,
     tree: &T,
@@ -368,7 +378,7 @@ fn naming_limit(
 }
 
 // Returns whether an error stops an answer.
-fn is_stopped(strict: bool, errors: &[Found]) -> bool
+pub(crate) fn is_stopped(strict: bool, errors: &[Found]) -> bool
     ensures { result ≡ is_stopped strict errors.now }
 {
     strict && !errors.is_empty()
@@ -376,13 +386,13 @@ fn is_stopped(strict: bool, errors: &[Found]) -> bool
 
 // The sources of a machine, and those that a plan reads.
 #[derive(Clone, Copy)]
-struct ReadSources<'a> {
-    all: &'a Sources,
-    planned: &'a Sources,
+pub(crate) struct ReadSources<'a> {
+    pub(crate) all: &'a Sources,
+    pub(crate) planned: &'a Sources,
 }
 
 // Finds the errors of all sources of a machine, and the jobs of those that a plan reads, without those with these names.
-fn kept_of(
+pub(crate) fn kept_of(
     alloc: Global,
     dir: &str,
     machine: &Machine,

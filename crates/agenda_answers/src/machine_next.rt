@@ -148,7 +148,7 @@ fn show_starts<O: Stream, E: Stream>(
 }
 
 // Reports an error, and returns the exit status. That of the rule is reported in words.
-fn report_fault<S: Stream>(fault: RunFault, rule: &Asked, err: &mut S) -> u8
+pub(crate) fn report_fault<S: Stream>(fault: RunFault, rule: &Asked, err: &mut S) -> u8
     ensures exits { ExitsInWords rule.now (Err fault) result
         (record { takes_all = S.takes_all; old = S.holds err.old; new = S.holds err.new }) }
     ensures failed { result ≢ 0 }

@@ -55,6 +55,17 @@ pub(crate) enum Request {
         /// Whether each line is a JSON object.
         json: bool,
     },
+    /// Print in words when one rule starts its job.
+    Describe {
+        /// The rule.
+        rule: Asked,
+        /// The time zones of the rule.
+        zones: ZonesRequest,
+        /// Whether the answer is a JSON object.
+        json: bool,
+    },
+    /// Print in words when each job of crontabs and timers starts.
+    DescribeJobs(JobsRequest),
     /// Print the replies to the steps of a script.
     Steps {
         /// The path of the script.
@@ -66,6 +77,13 @@ pub(crate) enum Request {
     Machine(MachineRequest),
     /// Print the next starts of one rule by the clock of the machine.
     MachineNext(MachineNext),
+    /// Print in words when one rule starts its job, with the zones of the machine.
+    MachineDescribe {
+        /// The rule.
+        rule: Asked,
+        /// Whether the answer is a JSON object.
+        json: bool,
+    },
 }
 
 /// Reads the timestamps of what is requested.
@@ -92,10 +110,13 @@ pub(crate) fn request_of(ask: Ask) -> Result<Request, Failure>
             policy,
             json,
         }),
+        Ask::Describe { rule, zones, json } => Ok(Request::Describe { rule, zones, json }),
+        Ask::DescribeJobs(jobs) => Ok(Request::DescribeJobs(jobs)),
         Ask::Steps { file } => Ok(Request::Steps { file }),
         Ask::Explain(code) => Ok(Request::Explain(code)),
         Ask::Machine(request) => Ok(Request::Machine(request)),
         Ask::MachineNext(request) => Ok(Request::MachineNext(request)),
+        Ask::MachineDescribe { rule, json } => Ok(Request::MachineDescribe { rule, json }),
     }
 }
 

@@ -13,7 +13,7 @@ use Rattle.clap.specs.declared.error.kind.ErrorKind.TheVariants.{DisplayHelp, Di
 use Rattle.plan_texts.specs.Steps.{◌>>=◌}
 use Rattle.plan_collect.specs.declared.Sizes.{Sizes}
 use Rattle.agenda_arguments.specs.declared.ask.Ask.{Ask}
-use Rattle.agenda_arguments.specs.declared.ask.Ask.TheVariants.{Next, Plan, Upcoming, Quiet, Check, Steps, Explain, Machine, MachineNext}
+use Rattle.agenda_arguments.specs.declared.ask.Ask.TheVariants.{Next, Plan, Upcoming, Quiet, Check, Describe, DescribeJobs, Steps, Explain, Machine, MachineNext, MachineDescribe}
 use Rattle.agenda_codes.specs.declared.Code.{Code}
 use Rattle.agenda_codes.specs.Codes.{code_named}
 use Rattle.agenda_policy.specs.declared.Policy.{Policy}
@@ -173,6 +173,21 @@ asked_by_check rows = do
   policy ← policy_in rows
   Ok (Check (zones_in rows) (sources_in rows) policy (is_given (codes "json") rows))
 
+-- what is requested, if it comes without sources (agenda)
+abbrev pub without_sources : List SourcePath → Ask → Result Ask ArgumentsFault
+without_sources [] ask = Ok ask
+without_sources (path ∷ more) ask = Err is_usage
+
+-- what `describe` requests, by the rule and its values: the rule alone, or the jobs of the sources if none is given (agenda)
+abbrev pub asked_by_description : (cron calendar : Option (List ℕ)) → List Row → Result Ask ArgumentsFault
+asked_by_description None None rows = Ok (DescribeJobs (jobs_in rows))
+asked_by_description cron calendar rows = do
+  rule ← one_rule cron calendar
+  without_sources (sources_in rows) (Describe rule (zones_in rows) (is_given (codes "json") rows))
+
+abbrev pub asked_by_describe : List Row → Result Ask ArgumentsFault
+asked_by_describe rows = asked_by_description (first_of (codes "cron") rows) (first_of (codes "calendar") rows) rows
+
 -- what `steps` requests, by its values (agenda)
 abbrev pub asked_by_steps : List Row → Result Ask ArgumentsFault
 asked_by_steps rows = do
@@ -201,8 +216,9 @@ asked_by_subcommand (Some met) =
     else (if bytes_eq met.0 (codes "upcoming") then asked_by_upcoming met.1
     else (if bytes_eq met.0 (codes "quiet") then asked_by_quiet met.1
     else (if bytes_eq met.0 (codes "check") then asked_by_check met.1
+    else (if bytes_eq met.0 (codes "describe") then asked_by_describe met.1
     else (if bytes_eq met.0 (codes "steps") then asked_by_steps met.1
-    else (if bytes_eq met.0 (codes "explain") then asked_by_explain met.1 else Err is_usage))))))
+    else (if bytes_eq met.0 (codes "explain") then asked_by_explain met.1 else Err is_usage)))))))
 
 -- the time zone of a question about a machine, which is optional: UTC with `--utc`, but not together with `--zone` (agenda)
 abbrev pub machine_zone : Option (List ℕ) → (utc : Bool) → Result (Option (List ℕ)) ArgumentsFault
@@ -299,6 +315,23 @@ asked_by_machine_next rows = do
     table = table;
   }))
 
+-- what `machine describe` requests, by its rule and the other values: the rule alone, or else the jobs of the machine (agenda)
+abbrev pub asked_of_description : Option (List ℕ) → (zone : Option (List ℕ)) → TableRequest → List Row → Result Ask ArgumentsFault
+asked_of_description (Some text) zone table rows = Ok (MachineDescribe (asked_in text) (is_given (codes "json") rows))
+asked_of_description None zone table rows = asked_of_machine rows (question.Describe (record {
+  zone = zone;
+  except = all_values (codes "except") rows;
+  strict = is_given (codes "strict") rows;
+  json = is_given (codes "json") rows;
+  table = table;
+}))
+
+abbrev pub asked_by_machine_describe : List Row → Result Ask ArgumentsFault
+asked_by_machine_describe rows = do
+  zone ← machine_zone (zone_in rows) (is_given (codes "utc") rows)
+  table ← table_in (is_given (codes "table") rows) (is_given (codes "text") rows) (is_given (codes "json") rows)
+  asked_of_description (first_of (codes "rule") rows) zone table rows
+
 -- what the given question about a machine requests, by its name and its values (agenda)
 abbrev pub asked_by_question : Option (List ℕ × List Row) → Result Ask ArgumentsFault
 asked_by_question None = Err is_usage
@@ -308,7 +341,8 @@ asked_by_question (Some met) =
     else (if bytes_eq met.0 (codes "quiet") then asked_by_machine_quiet met.1
     else (if bytes_eq met.0 (codes "check") then asked_by_machine_check met.1
     else (if bytes_eq met.0 (codes "sources") then asked_by_machine_sources met.1
-    else (if bytes_eq met.0 (codes "next") then asked_by_machine_next met.1 else Err is_usage)))))
+    else (if bytes_eq met.0 (codes "next") then asked_by_machine_next met.1
+    else (if bytes_eq met.0 (codes "describe") then asked_by_machine_describe met.1 else Err is_usage))))))
 
 -- how an error of clap is answered: help and the version are printed, and all other errors are usage errors (agenda)
 abbrev pub fault_of_kind : ErrorKind → ArgumentsFault

@@ -146,6 +146,12 @@ policy_rules = repeated_option (codes "deny") ∷ repeated_option (codes "allow"
 unfoldable pub check : App
 check = with_sources (with_each (with_zones (new_app (codes "check"))) (policy_rules ++ flag_option (codes "json") ∷ []))
 
+-- `describe` with the zones, `[--cron TEXT or --calendar TEXT]`, `[--keep-going] [--json]` and the sources; that a rule comes without
+-- sources is checked after clap's parse (agenda)
+unfoldable pub describe : App
+describe = with_sources (with_each (with_zones (new_app (codes "describe"))) (option_named (codes "cron") ∷ option_named (codes "calendar")
+    ∷ flag_option (codes "keep-going") ∷ flag_option (codes "json") ∷ []))
+
 -- `steps FILE` (agenda)
 unfoldable pub steps : App
 steps = subcommand_with (codes "steps") (required_argument (codes "file") ∷ [])
@@ -220,6 +226,13 @@ unfoldable pub machine_next : App
 machine_next = subcommand_with (codes "next") (required_argument (codes "rule") ∷ preset_option (codes "after") (codes "now")
     ∷ number_option (codes "count") (codes "5") ∷ machine_zone_rules ++ machine_form_rules)
 
+-- `machine describe [RULE]` with the machine, the zone, `[--except JOB ..]`, `[--strict]` and the form (agenda)
+unfoldable pub machine_describe : App
+machine_describe = with_rule
+    (with_each (with_machine (new_app (codes "describe")))
+    (machine_zone_rules ++ except_option ∷ flag_option (codes "strict") ∷ machine_form_rules))
+    (argument_named (codes "rule"))
+
 -- the command line of a subcommand (agenda)
 abbrev pub app_for : Subcommand → App
 app_for each.Next = next
@@ -227,6 +240,7 @@ app_for each.Plan = plan
 app_for each.Upcoming = upcoming
 app_for each.Quiet = quiet
 app_for each.Check = check
+app_for each.Describe = describe
 app_for each.Machine = machine_listed
 app_for each.Steps = steps
 app_for each.Explain = explain
@@ -236,16 +250,17 @@ app_for each.MachineQuiet = machine_quiet
 app_for each.MachineCheck = machine_check
 app_for each.MachineSources = machine_sources
 app_for each.MachineNext = machine_next
+app_for each.MachineDescribe = machine_describe
 
 -- the subcommands of `agenda`, in the order in which help lists them (agenda)
 abbrev pub subcommands : List Subcommand
 subcommands =
-    each.Next ∷ each.Plan ∷ each.Upcoming ∷ each.Quiet ∷ each.Check ∷ each.Machine ∷ each.Steps ∷ each.Explain ∷ []
+    each.Next ∷ each.Plan ∷ each.Upcoming ∷ each.Quiet ∷ each.Check ∷ each.Describe ∷ each.Machine ∷ each.Steps ∷ each.Explain ∷ []
 
 -- the questions about a machine, in the order in which help lists them (agenda)
 abbrev pub questions : List Subcommand
 questions = each.MachineUpcoming ∷ each.MachinePlan ∷ each.MachineQuiet ∷ each.MachineCheck ∷ each.MachineSources ∷ each.MachineNext
-    ∷ []
+    ∷ each.MachineDescribe ∷ []
 
 -- a command with these subcommands added, one after the other (agenda)
 abbrev pub with_subcommands : App → List Subcommand → App
@@ -261,8 +276,8 @@ requiring_subcommand app = on_top (λ s. record s { subcommand_required = true; 
 abbrev pub agenda_alone : App
 agenda_alone = requiring_subcommand (on_top (λ s. record s { has_version = true }) (new_app (codes "agenda")))
 
--- `agenda next ..`, `agenda plan ..`, `agenda upcoming ..`, `agenda quiet ..`, `agenda check ..`, `agenda machine`, `agenda steps ..`
--- or `agenda explain ..` (agenda)
+-- `agenda next ..`, `agenda plan ..`, `agenda upcoming ..`, `agenda quiet ..`, `agenda check ..`, `agenda describe ..`,
+-- `agenda machine`, `agenda steps ..` or `agenda explain ..` (agenda)
 unfoldable pub agenda : App
 agenda = with_subcommands agenda_alone subcommands
 
@@ -270,6 +285,7 @@ agenda = with_subcommands agenda_alone subcommands
 abbrev pub machine_alone : App
 machine_alone = requiring_subcommand (new_app (codes "machine"))
 
--- `machine upcoming ..`, `machine plan ..`, `machine quiet ..`, `machine check ..`, `machine sources ..` or `machine next ..` (agenda)
+-- `machine upcoming ..`, `machine plan ..`, `machine quiet ..`, `machine check ..`, `machine sources ..`, `machine next ..` or
+-- `machine describe ..` (agenda)
 unfoldable pub machine : App
 machine = with_subcommands machine_alone questions

@@ -3,7 +3,7 @@ ghost use Rattle.std.specs.Prelude.{◌≡◌, Err, IfOk, codes, map, string_byt
 ghost use Rattle.clap.specs.Words.{first_of, found_of, kind_of, rows_of, subcommand_rows_of};
 ghost use Rattle.agenda_arguments.specs.Arguments.ArgumentsFault.{is_usage};
 ghost use Rattle.agenda_arguments.specs.Arguments.{Follows, Gives, IsAnswerTo, are_of_machine, asked_by, asked_by_agenda, asked_by_check};
-ghost use Rattle.agenda_arguments.specs.Arguments.{asked_by_explain, asked_by_next, asked_by_plan, asked_by_quiet, asked_by_steps};
+ghost use Rattle.agenda_arguments.specs.Arguments.{asked_by_describe, asked_by_explain, asked_by_next, asked_by_plan, asked_by_quiet, asked_by_steps};
 ghost use Rattle.agenda_arguments.specs.Arguments.{asked_by_subcommand, asked_by_upcoming, format_in, jobs_in, one_rule, plan_in};
 ghost use Rattle.agenda_arguments.specs.Arguments.{sizes_in, zones_in};
 
@@ -23,6 +23,10 @@ use plan_texts::Text;
 use std::alloc::{AllocError, Global};
 
 const ONE_RULE: &str = "exactly one of --cron and --calendar\n";
+
+// The error of a rule and files.
+const RULE_AND_FILES: &str =
+    "error: --cron and --calendar describe one rule, and take no files\n\nFor more information, try '--help'.\n";
 
 const NO_SUBCOMMAND: &str =
     "error: a subcommand is missing\n\nFor more information, try '--help'.\n";
@@ -77,6 +81,7 @@ fn asked_by_subcommand(alloc: Global, matches: &ArgMatches<'_>) -> Result<Ask, U
         "upcoming" => asked_by_upcoming(alloc, given),
         "quiet" => asked_by_quiet(alloc, given),
         "check" => asked_by_check(alloc, given),
+        "describe" => asked_by_describe(alloc, given),
         "steps" => asked_by_steps(alloc, given),
         "explain" => asked_by_explain(alloc, given),
         _ => no_subcommand(alloc),
@@ -229,6 +234,24 @@ fn asked_by_check(alloc: Global, given: &ArgMatches<'_>) -> Result<Ask, UsageFau
         policy,
         json,
     })
+}
+
+// A rule is described by itself, and otherwise the jobs of files.
+fn asked_by_describe(alloc: Global, given: &ArgMatches<'_>) -> Result<Ask, UsageFault>
+    ensures { Follows result (asked_by_describe (rows_of (found_of given.now))) }
+{
+    if value_of(given, "cron").is_none() && value_of(given, "calendar").is_none() {
+        let jobs = jobs_of(alloc, given)?;
+        return Ok(Ask::DescribeJobs(jobs));
+    }
+    let rule = rule_of(alloc, given)?;
+    let sources = sources_of(alloc, given)?;
+    if !sources.as_slice().is_empty() {
+        return Err(UsageFault::Usage(text(alloc, RULE_AND_FILES)?));
+    }
+    let zones = zones_of(alloc, given)?;
+    let json = is_given(given, "json");
+    Ok(Ask::Describe { rule, zones, json })
 }
 
 fn asked_by_steps(alloc: Global, given: &ArgMatches<'_>) -> Result<Ask, UsageFault>

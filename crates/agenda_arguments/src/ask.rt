@@ -162,6 +162,21 @@ pub struct MachineCheck {
     pub json: bool,
 }
 
+/// How the jobs of a machine are described.
+#[derive(Debug, Drop)]
+pub struct MachineDescribe {
+    /// The text of the time zone of the rules. It is that of the machine if this is missing.
+    pub zone: Option<Text>,
+    /// The names of jobs that are left out of the answer, as it prints them.
+    pub except: JobNames,
+    /// Whether an error in a file stops the answer. If it doesn't, errors are skipped and reported.
+    pub strict: bool,
+    /// Whether each line is a JSON object, unless the answer is a table.
+    pub json: bool,
+    /// Whether it is a table.
+    pub table: TableRequest,
+}
+
 /// A question about a machine.
 #[derive(Debug, Drop)]
 pub enum MachineQuestion {
@@ -174,6 +189,8 @@ pub enum MachineQuestion {
     },
     /// Print what is wrong with the crontabs and timers of the machine.
     Check(MachineCheck),
+    /// Print in words when each of the machine's jobs starts.
+    Describe(MachineDescribe),
 }
 
 /// What next starts are listed of by the clock of the machine that the program runs on.
@@ -236,6 +253,17 @@ pub enum Ask {
         /// Whether each line is a JSON object.
         json: bool,
     },
+    /// Print in words when one rule starts its job.
+    Describe {
+        /// The rule.
+        rule: Asked,
+        /// The time zones of the rule.
+        zones: ZonesRequest,
+        /// Whether the answer is a JSON object.
+        json: bool,
+    },
+    /// Print in words when each job of crontabs and timers starts.
+    DescribeJobs(JobsRequest),
     /// Print the replies to the steps of a script.
     Steps {
         /// The path of the script.
@@ -247,6 +275,13 @@ pub enum Ask {
     Machine(MachineRequest),
     /// Print the next starts of one rule by the clock of the machine.
     MachineNext(MachineNext),
+    /// Print in words when one rule starts its job, with the zones of the machine.
+    MachineDescribe {
+        /// The rule.
+        rule: Asked,
+        /// Whether the answer is a JSON object.
+        json: bool,
+    },
 }
 
 /// Why the arguments request no command.

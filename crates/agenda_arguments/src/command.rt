@@ -2,7 +2,7 @@
 ghost use Rattle.std.specs.Prelude.{◌≡◌, [], ◌∷◌, IfOk, false, map};
 ghost use Rattle.clap.specs.Words.{app_of, items_of, new_app, rule_of, with_rule};
 ghost use Rattle.clap.specs.declared.builder.command.Command.TheViews.{out-Command};
-ghost use Rattle.agenda_arguments.specs.Command.{agenda, agenda_alone, argument_named, check, explain};
+ghost use Rattle.agenda_arguments.specs.Command.{agenda, agenda_alone, argument_named, check, describe, explain};
 ghost use Rattle.agenda_arguments.specs.Command.{flag_option, next, number_option, option_named, path_rule};
 ghost use Rattle.agenda_arguments.specs.Command.{plan, quiet, rule_for, source_rule, steps, upcoming, with_alias, with_each};
 ghost use Rattle.agenda_arguments.specs.Command.{with_jobs, with_sources, with_span, with_subcommands};
@@ -107,6 +107,7 @@ pub(crate) fn agenda_command<'a>(alloc: Global) -> Result<Command<'a>, AllocErro
         Subcommand::Upcoming,
         Subcommand::Quiet,
         Subcommand::Check,
+        Subcommand::Describe,
         Subcommand::Machine,
         Subcommand::Steps,
         Subcommand::Explain,
@@ -205,6 +206,27 @@ fn check_command<'a>(alloc: Global) -> Result<Command<'a>, AllocError>
 {
     let command = new_subcommand(alloc, "check", help::CHECK, help::AFTER_CHECK);
     let command = with_arguments(alloc, command, &[ZONE, EVENT_ZONES, DENY, ALLOW, JSON])?;
+    with_sources(alloc, command)
+}
+
+#[tactic(auto, unfolding(crate::specs::Command::describe, crate::specs::Command::with_zones))]
+fn describe_command<'a>(alloc: Global) -> Result<Command<'a>, AllocError>
+    ensures app { IfOk result (λ command. app_of command ≡ describe) }
+    ensures local { IfOk result (λ command. (out-Command command).has_globals ≡ false) }
+{
+    let command = new_subcommand(alloc, "describe", help::DESCRIBE, help::AFTER_DESCRIBE);
+    let command = with_arguments(
+        alloc,
+        command,
+        &[
+            ZONE,
+            EVENT_ZONES,
+            CommandOption::Text("cron", "TEXT", help::CRON),
+            CommandOption::Text("calendar", "TEXT", help::CALENDAR),
+            CommandOption::Flag("keep-going", help::KEEP_GOING),
+            JSON,
+        ],
+    )?;
     with_sources(alloc, command)
 }
 

@@ -1,21 +1,21 @@
 //! What the arguments of `agenda machine` request.
 ghost use Rattle.std.specs.Prelude.{◌≡◌, ◌++◌, ◌∷◌, IfOk, OnOk, codes, drop, map, string_bytes};
 ghost use Rattle.clap.specs.Words.{first_of, found_of, rows_of, subcommand_rows_of};
-ghost use Rattle.agenda_arguments.specs.Arguments.{Follows, Gives, asked_about_machine, asked_by_machine, asked_by_machine_check, asked_by_machine_next, asked_by_machine_plan};
+ghost use Rattle.agenda_arguments.specs.Arguments.{Follows, Gives, asked_about_machine, asked_by_machine, asked_by_machine_check, asked_by_machine_describe, asked_by_machine_next, asked_by_machine_plan};
 ghost use Rattle.agenda_arguments.specs.Arguments.{asked_by_machine_quiet, asked_by_machine_sources, asked_by_machine_upcoming};
 ghost use Rattle.agenda_arguments.specs.Arguments.{asked_by_question, asked_of_jobs, asked_of_machine, is_given, is_option};
 ghost use Rattle.agenda_arguments.specs.Arguments.{lacks_question, machine_format_in, machine_zone, span_in, table_in, with_question, zone_in};
 
 use crate::arguments::{no_subcommand, sizes_of, usage_fault};
 use crate::ask::{
-    Ask, FormatRequest, MachineCheck, MachineGoal, MachineJobs, MachineNext, MachineQuestion,
-    MachineRequest, SpanRequest, TableRequest, UsageFault,
+    Ask, FormatRequest, MachineCheck, MachineDescribe, MachineGoal, MachineJobs, MachineNext,
+    MachineQuestion, MachineRequest, SpanRequest, TableRequest, UsageFault,
 };
 use crate::codes::policy_of;
 use crate::command::machine_command;
 use crate::hint::{time_options, with_hint};
 use crate::names::names_of;
-use crate::values::{is_given, number_argument, text, text_of, value_of};
+use crate::values::{is_given, number_argument, text, text_if_given, text_of, value_of};
 use agenda_sources::Asked;
 use clap::ArgMatches;
 use plan_texts::Text;
@@ -137,6 +137,7 @@ fn asked_by_question(alloc: Global, matches: &ArgMatches<'_>) -> Result<Ask, Usa
         "check" => asked_by_machine_check(alloc, given),
         "sources" => asked_by_machine_sources(alloc, given),
         "next" => asked_by_machine_next(alloc, given),
+        "describe" => asked_by_machine_describe(alloc, given),
         _ => no_subcommand(alloc),
     }
 }
@@ -208,6 +209,27 @@ fn asked_by_machine_next(alloc: Global, given: &ArgMatches<'_>) -> Result<Ask, U
         format,
         table,
     }))
+}
+
+// A rule is described by itself, and otherwise the jobs of the machine.
+fn asked_by_machine_describe(alloc: Global, given: &ArgMatches<'_>) -> Result<Ask, UsageFault>
+    ensures { Follows result (asked_by_machine_describe (rows_of (found_of given.now))) }
+{
+    let zone = machine_zone(alloc, given)?;
+    let table = table_of(alloc, given)?;
+    let json = is_given(given, "json");
+    if let Some(text) = text_if_given(alloc, given, "rule")? {
+        let rule = Asked::of_text(alloc, text)?;
+        return Ok(Ask::MachineDescribe { rule, json });
+    }
+    let describe = MachineDescribe {
+        zone,
+        except: names_of(alloc, given, "except")?,
+        strict: is_given(given, "strict"),
+        json,
+        table,
+    };
+    asked_of_machine(alloc, given, MachineQuestion::Describe(describe))
 }
 
 // Returns the span of a plan.

@@ -10,3 +10,4 @@ pub mod Script
 pub mod Table
 pub mod Form
 pub mod Remark
+pub mod Describe

@@ -1,5 +1,5 @@
 -- The jobs that a request is answered for. All of it is our choice (agenda).
-use Rattle.std.specs.Prelude.{◌≡◌, ⊤, ℕ, Bool, true, false, List, [], Option, None, Some, Result, Ok}
+use Rattle.std.specs.Prelude.{◌≡◌, ⊤, ℕ, Bool, true, false, List, [], chars, Option, None, Some, Result, Ok}
 use Rattle.plan_rules.specs.Job.{JobParts}
 use Rattle.agenda_sources.specs.Findings.{kept_jobs, sources_errors}
 use Rattle.agenda_sources.specs.Sources.{jobs_reading}
@@ -8,6 +8,8 @@ use Rattle.agenda_sources.specs.declared.Source.{Source}
 use Rattle.agenda_sources.specs.declared.TimeZones.{TimeZones}
 use Rattle.agenda_faults.specs.declared.faults.RunFault.{RunFault}
 use Rattle.agenda_faults.specs.Faults.{fault_of_sources}
+use Rattle.agenda_describe.specs.Texts.{description_rows, descriptions_text}
+use Rattle.agenda_table.specs.Layout.{table_text}
 use Rattle.agenda_commands.specs.Command.{step}
 use Rattle.agenda_commands.specs.Goal.{CanBeWritten, text_of}
 use Rattle.agenda_commands.specs.Table.{text_of_table}
@@ -40,8 +42,13 @@ HasJobs None sources = sources ≡ []
 abbrev pub prepared_text : Prepared → List ℕ
 prepared_text (prepared.Lines made format) = text_of format made
 prepared_text (prepared.Table made form) = text_of_table form made
+prepared_text (prepared.Descriptions jobs json) = descriptions_text json jobs
+prepared_text (prepared.DescriptionTable jobs last frame) =
+    table_text frame.columns frame.terminal (description_rows jobs) (chars last)
 
 -- what holds of it, so that it can be written
 abbrev pub IsReady : Prepared → Type 0
 IsReady (prepared.Lines made format) = CanBeWritten made
 IsReady (prepared.Table made form) = ⊤
+IsReady (prepared.Descriptions jobs json) = ⊤
+IsReady (prepared.DescriptionTable jobs last frame) = ⊤

@@ -1,7 +1,8 @@
 //! The commands: each of them makes a text, or writes it to a stream.
 //!
 //! `next` writes the next starts of a rule, as lines or as a table, `check` all errors of sources, `steps`, whose module is `script`, the
-//! replies to a script, and `explain` what a code of an error or a warning means. There is a module for each of them.
+//! replies to a script, `explain` what a code of an error or a warning means, and `describe` in words when a rule or each job starts.
+//! There is a module for each of them.
 //!
 //! `plan`, `upcoming` and `quiet` answer for the jobs of sources: with their agenda, with when each of them starts next,
 //! and with the gaps without a start. They are values of `Goal`. Read `prepare` first: it makes the answer before a byte
@@ -14,6 +15,7 @@
 
 mod agenda_of;
 mod check;
+mod describe;
 mod explain;
 mod goal;
 mod laws;
@@ -24,6 +26,7 @@ mod script;
 mod table;
 
 pub use check::{Checked, are_warnings, run_check};
+pub use describe::{prepare_description, run_describe};
 pub use explain::run_explain;
 pub use goal::{Goal, Planning, origin_at};
 pub use laws::codes_are_explained;

@@ -11,9 +11,11 @@ ghost use Rattle.plan_streams.specs.Stream.{Puts};
 
 use crate::goal::{Goal, Made, make};
 use crate::table::{MadeTable, TableForm};
+use agenda_describe::{Descriptions, write_description_table, write_descriptions};
 use agenda_faults::RunFault;
 use agenda_sources::{Found, Sources, TimeZones, jobs_of_sources, kept_of_sources};
-use plan_rules::Jobs;
+use agenda_table::Frame;
+use plan_rules::{Jobs, Text};
 use plan_streams::{Stream, WriteFault};
 use plan_write::Format;
 use std::alloc::{AllocError, Global};
@@ -34,6 +36,10 @@ pub(crate) enum Prepared {
     Lines(Made, Format),
     // A table.
     Table(MadeTable, TableForm),
+    // Descriptions of jobs as lines, and whether each line is an object.
+    Descriptions(Descriptions, bool),
+    // Descriptions of jobs as a table, with its last line, and where it is shown.
+    DescriptionTable(Descriptions, Text, Frame),
 }
 
 impl Model for PreparedAnswer {
@@ -110,7 +116,7 @@ pub fn prepare_answer<R: Threads + Wait + Sync>(
 }
 
 // Returns the jobs that were kept, or else all jobs of the sources.
-fn jobs_or(
+pub(crate) fn jobs_or(
     alloc: Global,
     kept: Option<Jobs>,
     sources: &Sources,
@@ -147,6 +153,10 @@ impl PreparedAnswer {
         match &self.answer {
             Prepared::Lines(made, format) => made.write(format, out),
             Prepared::Table(made, form) => made.write(form, out),
+            Prepared::Descriptions(jobs, json) => write_descriptions(jobs, *json, out),
+            Prepared::DescriptionTable(jobs, last, frame) => {
+                write_description_table(jobs, last.as_str(), *frame, out)
+            }
         }
     }
 }

@@ -14,6 +14,7 @@ Examples:
   agenda upcoming --after 2024-01-01T00:00:00Z --crontab jobs backup.timer
   agenda quiet --since 2024-01-01T00:00:00Z --upto 2024-01-02T00:00:00Z --crontab jobs
   agenda check --crontab jobs backup.timer
+  agenda describe --cron '0 0 1,15 * 5'
   agenda machine check
   agenda steps script
   agenda explain OutOfRange";
@@ -174,6 +175,18 @@ Examples:
   agenda check --crontab jobs backup.timer
   agenda check --deny all --allow EitherDay --cron-d etc/cron.d/backup";
 
+pub(super) const DESCRIBE: &str = "Says in words when a rule or each job starts";
+
+pub(super) const AFTER_DESCRIBE: &str = "\
+With --cron or --calendar, prints one line: when the rule starts its job. Otherwise prints
+a line for each job of the files: its name, when it starts, and what it runs, separated by
+tabs. The words say exactly which seconds match: rules with different starts are never
+described alike. A rule of --cron or --calendar comes without files.
+
+Examples:
+  agenda describe --cron '0 0 1,15 * 5'
+  agenda describe --crontab jobs backup.timer";
+
 pub(super) const MACHINE: &str = "Answers questions about a machine's crontabs and timers";
 
 pub(super) const MACHINE_USAGE: &str = "agenda machine [COMMAND] [OPTIONS]";
@@ -301,6 +314,18 @@ time zone.
 Examples:
   agenda machine next '30 2 * * *'
   agenda machine next 'Mon..Fri 09:00 Europe/Berlin' --count 1";
+
+pub(super) const MACHINE_DESCRIBE: &str = "Says in words when each job of a machine starts";
+
+pub(super) const AFTER_MACHINE_DESCRIBE: &str = "\
+Prints what 'agenda describe' prints, about the files that 'agenda machine sources' lists,
+or, with a RULE, about this rule alone. Standard error has a line for each file that is
+skipped or isn't planned, and the errors of the files. The exit status is 1 if there is
+such an error or if a file can't be read, otherwise 0.
+
+Examples:
+  agenda machine describe
+  agenda machine describe 'Mon..Fri 09:00 Europe/Berlin'";
 
 pub(super) const STEPS: &str = "Runs a script of steps on a mailbox, for testing";
 

@@ -2,12 +2,12 @@
 ghost use Rattle.std.specs.Prelude.{◌≡◌, IfOk, false};
 ghost use Rattle.clap.specs.Words.{app_of};
 ghost use Rattle.clap.specs.declared.builder.command.Command.TheViews.{out-Command};
-ghost use Rattle.agenda_arguments.specs.Command.{machine, machine_alone, machine_check, machine_next, machine_plan, machine_quiet, machine_sources};
+ghost use Rattle.agenda_arguments.specs.Command.{machine, machine_alone, machine_check, machine_describe, machine_next, machine_plan, machine_quiet, machine_sources};
 ghost use Rattle.agenda_arguments.specs.Command.{machine_upcoming, with_machine_span};
 
 use super::subcommands::Subcommand;
 use super::{
-    ALLOW, CommandOption, DENY, JSON, PLANNERS, ROOM, help, new_subcommand, with_alias,
+    ALLOW, CommandOption, DENY, JSON, PLANNERS, ROOM, argument, help, new_subcommand, with_alias,
     with_argument, with_arguments, with_subcommands,
 };
 use clap::Command;
@@ -61,6 +61,7 @@ pub(crate) fn machine_command<'a>(alloc: Global) -> Result<Command<'a>, AllocErr
         Subcommand::MachineCheck,
         Subcommand::MachineSources,
         Subcommand::MachineNext,
+        Subcommand::MachineDescribe,
     ];
     with_subcommands(alloc, machine_alone(alloc)?, &questions)
 }
@@ -244,6 +245,30 @@ pub(super) fn machine_next_command<'a>(alloc: Global) -> Result<Command<'a>, All
             JSON,
         ],
     )
+}
+
+/// Returns the command line of `agenda machine describe`.
+///
+/// # Errors
+///
+/// An allocation failed.
+#[tactic(auto, unfolding(crate::specs::Command::machine_describe, crate::specs::Command::with_machine))]
+pub(super) fn machine_describe_command<'a>(alloc: Global) -> Result<Command<'a>, AllocError>
+    ensures app { IfOk result (λ command. app_of command ≡ machine_describe) }
+    ensures local { IfOk result (λ command. (out-Command command).has_globals ≡ false) }
+{
+    let command = new_subcommand(
+        alloc,
+        "describe",
+        help::MACHINE_DESCRIBE,
+        help::AFTER_MACHINE_DESCRIBE,
+    );
+    let command = with_arguments(
+        alloc,
+        command,
+        &[ROOT, ALL, ZONE, UTC, EXCEPT, STRICT, TABLE, TEXT, JSON],
+    )?;
+    with_argument(command, argument(alloc, "rule", "RULE", help::RULE))
 }
 
 // Adds what names a machine, and the span of a plan of it.

@@ -5,12 +5,12 @@ ghost use Rattle.clap.specs.declared.builder.command.Command.TheViews.{out-Comma
 ghost use Rattle.agenda_arguments.specs.Command.{app_for};
 
 use super::machine::{
-    machine_check_command, machine_next_command, machine_plan_command, machine_quiet_command,
-    machine_sources_command, machine_upcoming_command,
+    machine_check_command, machine_describe_command, machine_next_command, machine_plan_command,
+    machine_quiet_command, machine_sources_command, machine_upcoming_command,
 };
 use super::{
-    check_command, explain_command, help, new_subcommand, next_command, plan_command,
-    quiet_command, steps_command, upcoming_command,
+    check_command, describe_command, explain_command, help, new_subcommand, next_command,
+    plan_command, quiet_command, steps_command, upcoming_command,
 };
 use clap::Command;
 use std::alloc::{AllocError, Global};
@@ -23,6 +23,7 @@ pub(super) enum Subcommand {
     Upcoming,
     Quiet,
     Check,
+    Describe,
     Machine,
     Steps,
     Explain,
@@ -32,6 +33,7 @@ pub(super) enum Subcommand {
     MachineCheck,
     MachineSources,
     MachineNext,
+    MachineDescribe,
 }
 
 impl Subcommand {
@@ -51,6 +53,7 @@ impl Subcommand {
             Subcommand::Upcoming => upcoming_command(alloc),
             Subcommand::Quiet => quiet_command(alloc),
             Subcommand::Check => check_command(alloc),
+            Subcommand::Describe => describe_command(alloc),
             // Arguments that begin with `machine` are read by `machine_command`.
             Subcommand::Machine => {
                 Ok(new_subcommand(alloc, "machine", help::MACHINE, help::AFTER_MACHINE))
@@ -63,6 +66,7 @@ impl Subcommand {
             Subcommand::MachineCheck => machine_check_command(alloc),
             Subcommand::MachineSources => machine_sources_command(alloc),
             Subcommand::MachineNext => machine_next_command(alloc),
+            Subcommand::MachineDescribe => machine_describe_command(alloc),
         }
     }
 }

@@ -1,0 +1,4 @@
+pub mod Sentences
+pub mod Timers
+pub mod Jobs
+pub mod Texts
