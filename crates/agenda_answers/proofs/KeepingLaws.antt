@@ -8,7 +8,7 @@ use Rattle.agenda_sources.specs.declared.TimeZones.{TimeZones}
 use Rattle.agenda_sources.specs.Findings.{kept_jobs, sources_errors}
 use Rattle.agenda_sources.specs.Sources.{jobs_reading}
 use Rattle.agenda_arguments.specs.declared.Ask.{Ask}
-use Rattle.agenda_arguments.specs.declared.Ask.TheVariants.{Next, Plan, Upcoming, Quiet, Check, Steps, Explain, Machine, MachineNext}
+use Rattle.agenda_arguments.specs.declared.Ask.TheVariants.{Next, Plan, Upcoming, Quiet, Check, Describe, DescribeJobs, Steps, Explain, Machine, MachineNext, MachineDescribe}
 use Rattle.agenda_arguments.specs.declared.JobsRequest.{JobsRequest}
 use Rattle.agenda_arguments.specs.declared.ZonesRequest.{ZonesRequest}
 use Rattle.agenda_faults.specs.declared.faults.Failure.{Failure}
@@ -161,7 +161,10 @@ times_rejected (Quiet plan least) failure (stops found (stops first is same) aga
 times_rejected (Quiet plan least) failure (stops found (goes span is same) again) = absurd cc
 times_rejected (Quiet plan least) failure (goes planning is same) = absurd cc
 times_rejected (Check zones sources policy json) failure is = is
+times_rejected (Describe rule zones json) failure is = is
+times_rejected (DescribeJobs jobs) failure is = is
 times_rejected (Steps file) failure is = is
 times_rejected (Explain code) failure is = is
 times_rejected (Machine machine) failure is = is
 times_rejected (MachineNext next) failure is = is
+times_rejected (MachineDescribe rule json) failure is = is

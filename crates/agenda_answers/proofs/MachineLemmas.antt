@@ -12,6 +12,7 @@ use Rattle.plan_write.specs.declared.JobFile.{JobFile}
 use Rattle.plan_streams.specs.declared.WriteFault.{WriteFault}
 use Rattle.plan_machine.specs.Machine.{AreTooManyUnits, IsMachine}
 use Rattle.plan_machine.specs.declared.machine.Machine.{Machine}
+use Rattle.agenda_arguments.specs.declared.MachineDescribe.{MachineDescribe}
 use Rattle.agenda_arguments.specs.declared.MachineJobs.{MachineJobs}
 use Rattle.agenda_faults.specs.declared.faults.Failure.{Failure}
 use Rattle.agenda_faults.specs.declared.faults.Failure.TheVariants.{Run}
@@ -28,7 +29,7 @@ use Rattle.agenda_sources.specs.declared.Source.{Source}
 use Rattle.agenda_sources.specs.declared.SourcePath.{SourcePath}
 use Rattle.agenda_inputs.specs.Files.{Held, most_read}
 use Rattle.agenda_answers.specs.Host.{KnownHost}
-use Rattle.agenda_answers.specs.Machine.{Shown, found_below, jobs_rest, machine_zones, parted, plans, said_of, shows_jobs, stops_at_first}
+use Rattle.agenda_answers.specs.Machine.{Shown, found_below, jobs_rest, machine_zones, parted, plans, said_of, shows_descriptions, shows_jobs, stops_at_first}
 use Rattle.agenda_answers.specs.Outcome.{Outcome, answer_of, settles}
 use Rattle.agenda_inputs.specs.MachineZone.{KnownTree}
 use Rattle.agenda_inputs.specs.Steps.{Step, goes, stops}
@@ -54,6 +55,14 @@ pub shown_as_planned :
     shows_jobs held host dir jobs machine planned.unplanned.items sources end
 shown_as_planned held host dir jobs machine planned sources end same shown =
     subst (λ (m : Machine). shows_jobs held host dir jobs m planned.unplanned.items sources end) same shown
+
+pub described_as_planned :
+    (held : Held) (host : KnownHost) (dir : List ℕ) (describe : MachineDescribe) (machine planned : Machine) (sources : List Source)
+    (end : Result Shown Failure) → planned ≡ record machine { unplanned = planned.unplanned } →
+    shows_descriptions held host dir describe planned planned.unplanned.items sources end →
+    shows_descriptions held host dir describe machine planned.unplanned.items sources end
+described_as_planned held host dir describe machine planned sources end same shown =
+    subst (λ (m : Machine). shows_descriptions held host dir describe m planned.unplanned.items sources end) same shown
 
 -- standard error failed, which it doesn't if nothing is reported
 pub told_off :

@@ -15,6 +15,7 @@ use Rattle.agenda_faults.specs.declared.faults.RunFault.TheVariants.{NoMemory}
 use Rattle.agenda_commands.specs.declared.Goal.{Goal}
 use Rattle.agenda_commands.specs.Goal.{Makes, checked_jobs, valid_goal}
 use Rattle.agenda_commands.specs.Prepare.{errors_if, jobs_if}
+use Rattle.agenda_answers.specs.Describe.{described_as}
 use Rattle.agenda_answers.specs.Outcome.{Outcome, Reports, answer_of, kept_of, lines_of_skipped, settles}
 
 -- ---- what is kept, and the answer
@@ -60,6 +61,17 @@ pub settled_failure :
     answer_of Answers goal jobs (Err failure)
 settled_failure Answers goal jobs made failure bad (memory, none) =
     (memory, fails_at_once (valid_goal goal) made failure bad memory none)
+
+-- descriptions, or the error of their jobs
+pub described_answer :
+    (output made : Result (List ℕ) RunFault) (answer : Result (Result (List ℕ) RunFault) Failure) →
+    Makes (λ found. output ≡ found) (λ text. text) made → settles made answer → described_as output answer
+described_answer output made (Ok (Ok text)) is same = ((λ none. cc), subst (Makes (λ found. output ≡ found) (λ text. text)) same is)
+described_answer output made (Ok (Err fault)) is (other, same) = (
+  (λ none. other (let one : fault ≡ NoMemory = cc in one)),
+  (subst (Makes (λ found. output ≡ found) (λ text. text)) same is) other,
+)
+described_answer output made (Err failure) is (memory, none) = memory
 
 -- ---- the streams
 

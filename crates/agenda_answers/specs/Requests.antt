@@ -79,4 +79,5 @@ abbrev pub stopping : Ask → Ask
 stopping (Plan plan) = Plan (record plan { jobs = stopping_jobs plan.jobs })
 stopping (Upcoming after jobs) = Upcoming after (stopping_jobs jobs)
 stopping (Quiet plan least) = Quiet (record plan { jobs = stopping_jobs plan.jobs }) least
+stopping (DescribeJobs jobs) = DescribeJobs (stopping_jobs jobs)
 stopping other = other

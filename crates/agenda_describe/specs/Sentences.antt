@@ -9,7 +9,7 @@ use Rattle.plan_rules.specs.EventZones.{Zones}
 use Rattle.plan_rules.specs.Readings.{Reading}
 use Rattle.plan_texts.specs.Steps.{◌>>=◌}
 use Rattle.plan_words.specs.Sentence.{sentence_of}
-use Rattle.plan_words.specs.Tree.{Reboot, Scheduled}
+use Rattle.plan_words.specs.Tree.{OnReboot, Scheduled}
 use Rattle.plan_describe.specs.Said.{cron_said, event_said}
 use Rattle.agenda_sources.specs.declared.Asked.{Asked}
 use Rattle.agenda_sources.specs.declared.Asked.TheVariants.{Cron, Event}
@@ -17,8 +17,8 @@ use Rattle.agenda_sources.specs.declared.Asked.TheVariants.{Cron, Event}
 -- the sentence of the rule of a line in a crontab; one without times is `@reboot` (crontab(5))
 abbrev pub crontab_sentence : Rule → List ℕ
 crontab_sentence (rule.Cron cron) = sentence_of (Scheduled (cron_said cron))
-crontab_sentence (rule.Events events) = sentence_of Reboot
-crontab_sentence rule.Never = sentence_of Reboot
+crontab_sentence (rule.Events events) = sentence_of OnReboot
+crontab_sentence rule.Never = sentence_of OnReboot
 
 -- the name of the zone that an event ends with, by its text: the one that is looked up, or else UTC (systemd.time(7))
 abbrev pub zone_if : (names_zone : Bool) → (text : List ℕ) → Option (List ℕ)

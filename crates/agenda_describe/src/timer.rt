@@ -1,11 +1,11 @@
 //! The sentences of the events of a timer.
 
 ghost use Rattle.std.specs.Prelude.{◌≡◌, ◌++◌, [], IfOk, OnOk, map, option_map, string_bytes};
-ghost use Rattle.std.specs.List.{flat_map, list_any};
+ghost use Rattle.std.specs.List.{list_any};
 ghost use Rattle.std.specs.Str.{bytes_eq};
 ghost use Rattle.plan_rules.specs.Names.{with_name};
-ghost use Rattle.plan_rules.specs.TimerEntries.{line_in, line_shown, no_lines, shown_line, state_after};
-ghost use Rattle.agenda_describe.specs.Timers.{joined, more_sentences, next_sentence, sentences_after, sentences_by, sentences_from, timer_sentence, value_of, with_reading};
+ghost use Rattle.plan_rules.specs.TimerEntries.{line_shown, no_lines, shown_line, state_after, timer_lines};
+ghost use Rattle.agenda_describe.specs.Timers.{joined, more_sentences, next_sentence, sentences_after, sentences_by, sentences_from, sentences_in, timer_sentence, value_of, with_reading};
 
 use crate::rule::event_sentence;
 use plan_rules::{Calendar, EventZones, LineCause, Text, TimerLine, TimerReader, text_of};
@@ -25,14 +25,21 @@ pub(crate) fn timer_sentence(
 ) -> Result<Text, AllocError>
     ensures { IfOk result (λ text. text ≡ timer_sentence zones.now bytes.now) }
 {
-    let found = match text_of(bytes) {
+    let found = sentences_of(alloc, bytes, zones)?;
+    joined(alloc, found.as_slice())
+}
+
+// Returns the sentences of the events in a timer file.
+fn sentences_of(alloc: Global, bytes: &[u8], zones: &EventZones) -> Result<Vec<Text>, AllocError>
+    ensures { IfOk result (λ found. found.items ≡ sentences_in zones.now (timer_lines bytes.now)) }
+{
+    match text_of(bytes) {
         Ok(text) => {
             let lines = whole_lines(alloc, text)?;
-            sentences_of_lines(alloc, lines.as_slice(), zones)?
+            sentences_of_lines(alloc, lines.as_slice(), zones)
         }
-        Err(_) => Vec::new(alloc),
-    };
-    joined(alloc, found.as_slice())
+        Err(_) => Ok(Vec::new(alloc)),
+    }
 }
 
 // Returns the sentences of the events of whole lines.
@@ -74,7 +81,7 @@ fn add_step(
     step: TimerLine<'_>,
 ) -> Result<(), AllocError>
     ensures { OnOk result (found.new.items ≡ sentences_by found.old.items
-        (option_map (λ setting. (setting.0.now, setting.1.now)) setting.entry) (line_shown step)) }
+        (option_map (λ setting. (setting.0.now, setting.1.now)) setting.entry) (line_shown step.entry)) }
 {
     match step {
         TimerLine::Empties => {

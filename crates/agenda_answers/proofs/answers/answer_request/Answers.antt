@@ -11,6 +11,12 @@ pub returns-in-Check-clause-answers : goal.returns-in-Check-clause-answers
 returns-in-Check-clause-answers g c =
     rw c.in-Check.is (_, c.check-done.ensures.ends, rw c.as_slice.ensures at c.end-in-Check.ensures.exits)
 
+pub returns-in-Describe-clause-answers : goal.returns-in-Describe-clause-answers
+returns-in-Describe-clause-answers g c = rw c.in-Describe.is (_, c.describe.ensures.ends, c.end-in-Describe.ensures.exits)
+
+pub returns-in-DescribeJobs-clause-answers : goal.returns-in-DescribeJobs-clause-answers
+returns-in-DescribeJobs-clause-answers g c = rw c.in-DescribeJobs.is c.answer_descriptions.ensures.answers
+
 pub returns-in-Steps-clause-answers : goal.returns-in-Steps-clause-answers
 returns-in-Steps-clause-answers g c = rw c.in-Steps.is (_, c.steps.ensures.ends, c.end-in-Steps.ensures.exits)
 

@@ -3,7 +3,7 @@ use Rattle.agenda_faults.specs.declared.faults.Failure.TheVariants.{Run}
 use Rattle.agenda_faults.specs.declared.faults.RunFault.TheVariants as run
 use Rattle.agenda_inputs.specs.Steps.{goes}
 use Rattle.agenda_machine.specs.Loaded.{loaded_sources}
-use Rattle.agenda_answers.proofs.MachineLemmas.{shown_as_planned}
+use Rattle.agenda_answers.proofs.MachineLemmas.{described_as_planned, shown_as_planned}
 use Rattle.agenda_inputs.proofs.StepLemmas.{failed}
 use Rattle.agenda_answers.proofs.machine.make_answer.Goals as goal
 
@@ -24,6 +24,20 @@ returns-in_ok-loaded-in-Jobs g c =
     (loaded_sources c.in_ok-machine.machine) _ c.in_ok-loaded-in-Jobs.ensures.others
     (rw (c.in_ok-loaded-in-Jobs.ensures.planned, c.new-below.ensures, c.root_of.ensures, c.dir_of-dir.ensures, c.as_str.ensures)
     at c.jobs_answer.ensures))))
+
+pub returns-in_err-loaded-in-Describe : goal.returns-in_err-loaded-in-Describe
+returns-in_err-loaded-in-Describe g c =
+    goes _ (rw (c.dir_of-dir.ensures, c.as_str.ensures) at c.in_ok-machine.ensures)
+    (rw c.in-Describe.is (failed _ (Run run.NoMemory) refl c.from_residual-in_err-loaded-in-Describe.ensures.1))
+
+pub returns-in_ok-loaded-in-Describe : goal.returns-in_ok-loaded-in-Describe
+returns-in_ok-loaded-in-Describe g c =
+    goes _ (rw (c.dir_of-dir.ensures, c.as_str.ensures) at c.in_ok-machine.ensures)
+    (rw c.in-Describe.is (goes _ c.in_ok-loaded-in-Describe.ensures.unplanned
+    (described_as_planned _ _ _ c.in-Describe.describe c.in_ok-machine.machine c.in_ok-loaded-in-Describe.loaded.machine
+    (loaded_sources c.in_ok-machine.machine) _ c.in_ok-loaded-in-Describe.ensures.others
+    (rw (c.in_ok-loaded-in-Describe.ensures.planned, c.new-below.ensures, c.root_of.ensures, c.dir_of-dir.ensures, c.as_str.ensures)
+    at c.descriptions_answer.ensures))))
 
 pub returns-in-Sources : goal.returns-in-Sources
 returns-in-Sources g c =
