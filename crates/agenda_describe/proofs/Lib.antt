@@ -1,0 +1,2 @@
+mod JobLemmas
+mod ShortLemmas

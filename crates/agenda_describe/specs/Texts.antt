@@ -13,13 +13,14 @@ abbrev pub description_line : DescribedJob → List ℕ
 description_line job = (job.name ++ codes "\t") ++ ((job.rule ++ codes "\t") ++ (job.runs ++ codes "\n"))
 
 -- an object in JSON
+abbrev pub description_head : DescribedJob → List ℕ
+description_head job = codes "{\"job\":" ++ (json_string job.name ++ (codes ",\"rule\":" ++ json_string job.rule))
+
+abbrev pub description_tail : DescribedJob → List ℕ
+description_tail job = codes ",\"run\":" ++ (json_string job.command ++ codes "}\n")
+
 abbrev pub description_object : DescribedJob → List ℕ
-description_object job =
-    codes "{\"job\":"
-    ++ (json_string job.name
-    ++ (codes ",\"rule\":"
-    ++ (json_string job.rule
-    ++ (user_member job.user ++ (codes ",\"run\":" ++ (json_string job.command ++ codes "}\n"))))))
+description_object job = description_head job ++ (user_member job.user ++ description_tail job)
 
 abbrev pub description_text : (json : Bool) → DescribedJob → List ℕ
 description_text true job = description_object job

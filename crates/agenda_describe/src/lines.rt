@@ -5,7 +5,7 @@ ghost use Rattle.plan_streams.specs.Stream.{Puts};
 ghost use Rattle.plan_streams.specs.Writer.{Takes};
 ghost use Rattle.plan_write.specs.Json.{json_string};
 ghost use Rattle.plan_write.specs.Texts.{user_member};
-ghost use Rattle.agenda_describe.specs.Texts.{description_line, description_object, description_text, descriptions_text, sentence_text};
+ghost use Rattle.agenda_describe.specs.Texts.{description_head, description_line, description_object, description_tail, description_text, descriptions_text, sentence_text};
 
 use crate::jobs::{DescribedJob, Descriptions};
 use plan_rules::Text;
@@ -68,11 +68,25 @@ fn put_line<S: Stream>(job: &DescribedJob, lines: &mut TextWriter<'_, S>)
 fn put_object<S: Stream>(job: &DescribedJob, lines: &mut TextWriter<'_, S>)
     ensures { Takes S.holds S.takes_all lines.old lines.new (description_object job.now) }
 {
+    put_head(job, lines);
+    put_user(&job.user, lines);
+    put_tail(job, lines);
+}
+
+// Puts the first members of an object: the job and its rule.
+fn put_head<S: Stream>(job: &DescribedJob, lines: &mut TextWriter<'_, S>)
+    ensures { Takes S.holds S.takes_all lines.old lines.new (description_head job.now) }
+{
     lines.put(b"{\"job\":");
     put_string(job.name.as_str(), lines);
     lines.put(b",\"rule\":");
     put_string(job.rule.as_str(), lines);
-    put_user(&job.user, lines);
+}
+
+// Puts the last member of an object: what the job runs.
+fn put_tail<S: Stream>(job: &DescribedJob, lines: &mut TextWriter<'_, S>)
+    ensures { Takes S.holds S.takes_all lines.old lines.new (description_tail job.now) }
+{
     lines.put(b",\"run\":");
     put_string(job.command.as_str(), lines);
     lines.put(b"}\n");
