@@ -27,7 +27,7 @@ _agenda() {
                 [[ $command != machine\ -* ]] || command='machine upcoming'
                 break
                 ;;
-            next | plan | upcoming | quiet | check | steps | explain)
+            next | plan | upcoming | quiet | check | describe | steps | explain)
                 command=${words[at]}
                 break
                 ;;
@@ -35,11 +35,11 @@ _agenda() {
     done
 
     case $command:$prev in
-        next:--cron)
+        next:--cron | describe:--cron)
             mapfile -t COMPREPLY < <(compgen -W '@yearly @annually @monthly @weekly @daily @midnight @hourly @reboot' -- "$cur")
             return
             ;;
-        next:--calendar)
+        next:--calendar | describe:--calendar)
             mapfile -t COMPREPLY < <(compgen -W 'minutely hourly daily weekly monthly quarterly semiannually yearly annually' -- "$cur")
             return
             ;;
@@ -88,7 +88,7 @@ _agenda() {
             mapfile -t COMPREPLY < <(compgen -W '--help --version' -- "$cur")
             ;;
         :*)
-            mapfile -t COMPREPLY < <(compgen -W 'next plan upcoming quiet check machine steps explain' -- "$cur")
+            mapfile -t COMPREPLY < <(compgen -W 'next plan upcoming quiet check describe machine steps explain' -- "$cur")
             ;;
         next:*)
             mapfile -t COMPREPLY < <(compgen -W '--after= --zone= --event-zones --count= --cron= --calendar= --json --local --help' -- "$cur")
@@ -110,12 +110,16 @@ _agenda() {
             mapfile -t COMPREPLY < <(compgen -W "--deny= --allow= --json $sources" -- "$cur")
             [[ ${COMPREPLY-} == *= ]] && compopt -o nospace
             ;;
+        describe:-*)
+            mapfile -t COMPREPLY < <(compgen -W "--cron= --calendar= --keep-going --json $sources" -- "$cur")
+            [[ ${COMPREPLY-} == *= ]] && compopt -o nospace
+            ;;
         machine:-* | machine\ upcoming:*)
             mapfile -t COMPREPLY < <(compgen -W "--after= --except= --delays --strict $form $machine" -- "$cur")
             [[ ${COMPREPLY-} == *= ]] && compopt -o nospace
             ;;
         machine:*)
-            mapfile -t COMPREPLY < <(compgen -W 'upcoming plan quiet check sources next' -- "$cur")
+            mapfile -t COMPREPLY < <(compgen -W 'upcoming plan quiet check sources next describe' -- "$cur")
             ;;
         machine\ plan:*)
             mapfile -t COMPREPLY < <(compgen -W "$span --except= --delays --strict $form $machine" -- "$cur")
@@ -137,7 +141,11 @@ _agenda() {
             mapfile -t COMPREPLY < <(compgen -W "--after= --count= --zone= --utc --json --help $form" -- "$cur")
             [[ ${COMPREPLY-} == *= ]] && compopt -o nospace
             ;;
-        plan:* | upcoming:* | quiet:* | check:*)
+        machine\ describe:*)
+            mapfile -t COMPREPLY < <(compgen -W "--except= --strict $form $machine" -- "$cur")
+            [[ ${COMPREPLY-} == *= ]] && compopt -o nospace
+            ;;
+        plan:* | upcoming:* | quiet:* | check:* | describe:*)
             _filedir timer
             ;;
         steps:-*)

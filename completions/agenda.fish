@@ -13,12 +13,13 @@ function __fish_agenda_zones
     end
 end
 
-set -l none 'not __fish_seen_subcommand_from next plan upcoming quiet check machine steps explain'
+set -l none 'not __fish_seen_subcommand_from next plan upcoming quiet check describe machine steps explain'
 complete -c agenda -n $none -a next -d 'Print the next starts of one rule'
 complete -c agenda -n $none -a plan -d 'Print every start in a span of time'
 complete -c agenda -n $none -a upcoming -d 'Print when each job of crontabs and timers starts next'
 complete -c agenda -n $none -a quiet -d 'Print the gaps in which no job starts'
 complete -c agenda -n $none -a check -d 'Print errors and likely mistakes in crontabs and timers'
+complete -c agenda -n $none -a describe -d 'Say in words when a rule or each job starts'
 complete -c agenda -n $none -a machine -d 'Answer questions about a machine\'s crontabs and timers'
 complete -c agenda -n $none -a steps -d 'Run a script of steps on a mailbox'
 complete -c agenda -n $none -a explain -d 'Explain the code of an error or a warning'
@@ -29,7 +30,7 @@ set -l after '__fish_seen_subcommand_from next upcoming'
 complete -c agenda -n $after -l after -x -d 'Only starts later than this time'
 
 # machine has a command check of its own
-set -l zone 'not __fish_seen_subcommand_from machine; and __fish_seen_subcommand_from next plan upcoming quiet check'
+set -l zone 'not __fish_seen_subcommand_from machine; and __fish_seen_subcommand_from next plan upcoming quiet check describe'
 complete -c agenda -n $zone -l zone -r -F -d 'The time zone of the rules [UTC]' -a '(__fish_agenda_zones)'
 complete -c agenda -n $zone -l event-zones -d 'Read events that end with a time zone'
 complete -c agenda -n $zone -l json -d 'Print each line as a JSON object'
@@ -43,9 +44,11 @@ complete -c agenda -n $times -l local -d 'Print times in the time zone of the ru
 
 set -l next 'not __fish_seen_subcommand_from machine; and __fish_seen_subcommand_from next'
 complete -c agenda -n $next -l count -x -d 'How many starts, from 1 to 1000 [1]'
-complete -c agenda -n $next -l cron -x -d 'A cron rule' \
+
+set -l rule 'not __fish_seen_subcommand_from machine; and __fish_seen_subcommand_from next describe'
+complete -c agenda -n $rule -l cron -x -d 'A cron rule' \
     -a '@yearly @annually @monthly @weekly @daily @midnight @hourly @reboot'
-complete -c agenda -n $next -l calendar -x -d 'A calendar event' \
+complete -c agenda -n $rule -l calendar -x -d 'A calendar event' \
     -a 'minutely hourly daily weekly monthly quarterly semiannually yearly annually'
 
 set -l span '__fish_seen_subcommand_from plan quiet'
@@ -62,24 +65,27 @@ set -l quiet '__fish_seen_subcommand_from quiet'
 complete -c agenda -n $quiet -l limit -x -d 'The maximum number of starts, from 1 to 1000000 [1000000]'
 complete -c agenda -n $quiet -l least -x -d 'The minimum length of a gap in seconds [1800]'
 
+set -l keeping 'not __fish_seen_subcommand_from machine; and __fish_seen_subcommand_from plan upcoming quiet describe'
+complete -c agenda -n $keeping -l keep-going -d 'Skip what is invalid or can\'t be read, and report it'
+
 set -l jobs '__fish_seen_subcommand_from plan upcoming quiet'
-complete -c agenda -n $jobs -l keep-going -d 'Skip what is invalid or can\'t be read, and report it'
 complete -c agenda -n $jobs -l delays -d 'Include the delays of timers'
 
-set -l sources 'not __fish_seen_subcommand_from machine; and __fish_seen_subcommand_from plan upcoming quiet check'
+set -l sources 'not __fish_seen_subcommand_from machine; and __fish_seen_subcommand_from plan upcoming quiet check describe'
 complete -c agenda -n $sources -l crontab -r -F -d 'A user\'s crontab'
 complete -c agenda -n $sources -l system-crontab -r -F -d 'The system\'s crontab'
 complete -c agenda -n $sources -l cron-d -r -F -d 'A crontab of a package'
 complete -c agenda -n $sources -l spool -r -F -d 'A user\'s crontab, named by the user'
 complete -c agenda -n $sources -k -a '(__fish_complete_suffix .timer)'
 
-set -l machine '__fish_seen_subcommand_from machine; and not __fish_seen_subcommand_from upcoming plan quiet check sources next'
+set -l machine '__fish_seen_subcommand_from machine; and not __fish_seen_subcommand_from upcoming plan quiet check sources next describe'
 complete -c agenda -n $machine -a upcoming -d 'Print when each job of a machine starts next'
 complete -c agenda -n $machine -a plan -d 'Print every start of a machine\'s jobs in a span of time'
 complete -c agenda -n $machine -a quiet -d 'Print the gaps in which no job of a machine starts'
 complete -c agenda -n $machine -a check -d 'Print errors and likely mistakes in a machine\'s crontabs and timers'
 complete -c agenda -n $machine -a sources -d 'List a machine\'s crontabs and timers'
 complete -c agenda -n $machine -a next -d 'Print the next starts of a rule by the machine\'s clock'
+complete -c agenda -n $machine -a describe -d 'Say in words when each job of a machine starts'
 
 set -l question '__fish_seen_subcommand_from machine; and not __fish_seen_subcommand_from next'
 complete -c agenda -n $question -l root -x -d 'The root directory of the machine [/]' -a '(__fish_complete_directories)'
