@@ -127,7 +127,7 @@ devices_left() {
 # that is full it is an error.
 devices_help() {
   local command to
-  for command in '' next plan upcoming quiet check steps explain; do
+  for command in '' next plan upcoming quiet check describe steps explain; do
     devices_run "exec agenda $command --help"
     cp "$work/out" "$work/help.wanted"
     [ -s "$work/out" ] || tell "nothing on standard output"
@@ -229,6 +229,9 @@ quiet day --crontab jobs
 quiet day --crontab jobs --json
 check --crontab faulty
 check --crontab faulty --json
+describe --cron @daily
+describe --crontab jobs d.timer
+describe --crontab jobs d.timer --json --keep-going
 steps script
 explain
 explain Device

@@ -39,6 +39,7 @@ Commands:
   upcoming  Prints when each job of crontabs and timers starts next
   quiet     Prints the gaps in which no job of crontabs and timers starts
   check     Prints errors and likely mistakes in crontabs and timers
+  describe  Says in words when a rule or each job starts
   machine   Answers questions about a machine's crontabs and timers
   steps     Runs a script of steps on a mailbox, for testing
   explain   Explains a code, such as OutOfRange, and what to do about it
@@ -58,6 +59,7 @@ Examples:
   agenda upcoming --after 2024-01-01T00:00:00Z --crontab jobs backup.timer
   agenda quiet --since 2024-01-01T00:00:00Z --upto 2024-01-02T00:00:00Z --crontab jobs
   agenda check --crontab jobs backup.timer
+  agenda describe --cron '0 0 1,15 * 5'
   agenda machine check
   agenda steps script
   agenda explain OutOfRange
@@ -291,6 +293,46 @@ Examples:
 END
 }
 
+words_make_help_of_describe() {
+  cat >"$work/words/describe.text" <<'END'
+Says in words when a rule or each job starts
+
+Usage: agenda describe [OPTIONS] [TIMER]...
+
+Arguments:
+  [TIMER]...  A systemd timer file, such as backup.timer
+
+Options:
+      --zone <ZONE>         The time zone of the rules, such as Europe/Berlin,
+                            or the path of a TZif file; UTC if it isn't given
+      --event-zones         Read events that end with a time zone, such as
+                            'Mon..Fri 09:00 Europe/Berlin'
+      --cron <TEXT>         A cron rule: minute, hour, day of month, month and day
+                            of week, or @hourly, @daily, @weekly, @monthly, @yearly
+      --calendar <TEXT>     A calendar event, such as 'Mon..Fri *-*-* 04:30' or daily
+      --keep-going          Skip what is invalid or can't be read, and report it
+      --json                Print each line as a JSON object; agenda(1)
+                            describes the keys
+      --crontab <F>         A user's crontab, as 'crontab -l' prints it
+      --system-crontab <F>  A crontab whose lines name a user, such as
+                            /etc/crontab
+      --cron-d <F>          A package's crontab, such as /etc/cron.d/php;
+                            may be given more than once
+      --spool <F>           A user's crontab in the spool directory;
+                            may be given more than once
+  -h, --help                Print help
+
+With --cron or --calendar, prints one line: when the rule starts its job. Otherwise prints
+a line for each job of the files: its name, when it starts, and what it runs, separated by
+tabs. The words say exactly which times match: rules that match different times never have
+the same words. A rule of --cron or --calendar comes without files.
+
+Examples:
+  agenda describe --cron '0 0 1,15 * 5'
+  agenda describe --crontab jobs backup.timer
+END
+}
+
 words_make_help_of_machine() {
   cat >"$work/words/machine.text" <<'END'
 Answers questions about a machine's crontabs and timers
@@ -304,6 +346,7 @@ Commands:
   check     Prints errors and likely mistakes in a machine's crontabs and timers
   sources   Lists a machine's crontabs and timers
   next      Prints the next starts of a rule by the machine's clock
+  describe  Says in words when each job of a machine starts
 
 Options:
   -h, --help  Print help
@@ -400,6 +443,8 @@ quiet quiet|--since|2024-01-01T00:00:00Z|--least|0|-h
 check check|--help
 check check|-h
 check check|--crontab|nothing|nothing|-h
+describe describe|--help
+describe describe|--cron|@daily|-h
 machine machine|--help
 machine machine|-h
 machine machine|--help|check
@@ -422,7 +467,7 @@ words_tell_usage() {
 words_tell_usage_of_agenda() {
   words_tell_usage '' <<'END'
 error: 'agenda' requires a subcommand but one was not provided
-  [subcommands: next, plan, upcoming, quiet, check, machine, steps, explain]
+  [subcommands: next, plan, upcoming, quiet, check, describe, machine, steps, explain]
 
 Usage: agenda <COMMAND>
 
@@ -612,6 +657,24 @@ quiet|$span|--count=1 => error: unexpected argument '--count' found
 quiet|$span|--after=x => error: unexpected argument '--after' found
 quiet|$span|--cron=@daily => error: unexpected argument '--cron' found
 quiet|$span|--version => error: unexpected argument '--version' found
+END
+}
+
+# What describe doesn't take: a moment, a span, delays, local times, sizes and limits.
+words_begin_usage_of_describe() {
+  words_begin_usage <<END
+describe|--cron=@daily|--cron=@daily => error: the argument '--cron <TEXT>' cannot be used multiple times
+describe|--calendar => error: a value is required for '--calendar <TEXT>' but none was supplied
+describe|--crontab=a|--crontab=b => error: the argument '--crontab <F>' cannot be used multiple times
+describe|--spool=a|--spool => error: a value is required for '--spool <F>' but none was supplied
+describe|--after=x => error: unexpected argument '--after' found
+describe|--since=x => error: unexpected argument '--since' found
+describe|--delays => error: unexpected argument '--delays' found
+describe|--local => error: unexpected argument '--local' found
+describe|--json|--json => error: the argument '--json' cannot be used multiple times
+describe|--keep-going=yes => error: unexpected value 'yes' for '--keep-going' found; no more were expected
+describe|--limit=1 => error: unexpected argument '--limit' found
+describe|--deny=all => error: unexpected argument '--deny' found
 END
 }
 
@@ -913,6 +976,7 @@ words_make_help_of_plan
 words_make_help_of_upcoming
 words_make_help_of_quiet
 words_make_help_of_check
+words_make_help_of_describe
 words_make_help_of_machine
 words_make_help_of_steps
 words_make_help_of_explain
@@ -924,6 +988,7 @@ words_begin_usage_of_agenda_next_steps_and_explain
 words_begin_usage_of_plan
 words_begin_usage_of_upcoming_and_quiet
 words_begin_usage_of_check
+words_begin_usage_of_describe
 words_ask_for_starts
 words_ask_for_what_is_refused
 words_ask_for_replies

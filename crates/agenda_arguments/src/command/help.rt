@@ -180,8 +180,8 @@ pub(super) const DESCRIBE: &str = "Says in words when a rule or each job starts"
 pub(super) const AFTER_DESCRIBE: &str = "\
 With --cron or --calendar, prints one line: when the rule starts its job. Otherwise prints
 a line for each job of the files: its name, when it starts, and what it runs, separated by
-tabs. The words say exactly which times match: rules that match other times are described
-in other words. A rule of --cron or --calendar comes without files.
+tabs. The words say exactly which times match: rules that match different times never have
+the same words. A rule of --cron or --calendar comes without files.
 
 Examples:
   agenda describe --cron '0 0 1,15 * 5'
