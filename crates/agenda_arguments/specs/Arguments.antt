@@ -1,6 +1,6 @@
 -- What the arguments of the command line request.
 use Rattle.std.specs.Prelude.{◌≡◌, ⊤, ℕ, Bool, false, List, [], ◌∷◌, Option, Some, None, Result, Ok, Err}
-use Rattle.std.specs.Prelude.{◌&&◌, ◌||◌, ◌==◌, codes, drop, if◌then◌else◌, map, not, option_and_then, slice_get, true, unwrap_or, IfErr}
+use Rattle.std.specs.Prelude.{◌&&◌, ◌||◌, ◌==◌, codes, length, drop, if◌then◌else◌, map, not, option_and_then, slice_get, true, unwrap_or, IfErr}
 use Rattle.std.specs.List.{flat_map}
 use Rattle.std.specs.Option.{option_map_or}
 use Rattle.std.specs.Str.{bytes_eq}
@@ -175,15 +175,18 @@ asked_by_check rows = do
 
 -- what is requested, if it comes without sources (agenda)
 abbrev pub without_sources : List SourcePath → Ask → Result Ask ArgumentsFault
-without_sources [] ask = Ok ask
-without_sources (path ∷ more) ask = Err is_usage
+without_sources sources ask = if length sources == 0 then Ok ask else Err is_usage
 
--- what `describe` requests, by the rule and its values: the rule alone, or the jobs of the sources if none is given (agenda)
+-- what `describe` requests of the given rule, by its values (agenda)
+abbrev pub asked_by_rule : List Row → Result Ask ArgumentsFault
+asked_by_rule rows = do
+  rule ← one_rule (first_of (codes "cron") rows) (first_of (codes "calendar") rows)
+  without_sources (sources_in rows) (Describe rule (zones_in rows) (is_given (codes "json") rows))
+
+-- what `describe` requests, by its values: the rule alone, or the jobs of the sources if none is given (agenda)
 abbrev pub asked_by_description : (cron calendar : Option (List ℕ)) → List Row → Result Ask ArgumentsFault
 asked_by_description None None rows = Ok (DescribeJobs (jobs_in rows))
-asked_by_description cron calendar rows = do
-  rule ← one_rule cron calendar
-  without_sources (sources_in rows) (Describe rule (zones_in rows) (is_given (codes "json") rows))
+asked_by_description cron calendar rows = asked_by_rule rows
 
 abbrev pub asked_by_describe : List Row → Result Ask ArgumentsFault
 asked_by_describe rows = asked_by_description (first_of (codes "cron") rows) (first_of (codes "calendar") rows) rows

@@ -146,11 +146,15 @@ policy_rules = repeated_option (codes "deny") ∷ repeated_option (codes "allow"
 unfoldable pub check : App
 check = with_sources (with_each (with_zones (new_app (codes "check"))) (policy_rules ++ flag_option (codes "json") ∷ []))
 
+-- the options of `describe` beside the zones (agenda)
+abbrev pub describe_rules : List Rule
+describe_rules = option_named (codes "cron") ∷ option_named (codes "calendar") ∷ flag_option (codes "keep-going")
+    ∷ flag_option (codes "json") ∷ []
+
 -- `describe` with the zones, `[--cron TEXT or --calendar TEXT]`, `[--keep-going] [--json]` and the sources; that a rule comes without
 -- sources is checked after clap's parse (agenda)
 unfoldable pub describe : App
-describe = with_sources (with_each (with_zones (new_app (codes "describe"))) (option_named (codes "cron") ∷ option_named (codes "calendar")
-    ∷ flag_option (codes "keep-going") ∷ flag_option (codes "json") ∷ []))
+describe = with_sources (with_each (with_zones (new_app (codes "describe"))) describe_rules)
 
 -- `steps FILE` (agenda)
 unfoldable pub steps : App

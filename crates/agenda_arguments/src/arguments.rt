@@ -3,7 +3,7 @@ ghost use Rattle.std.specs.Prelude.{◌≡◌, Err, IfOk, codes, map, string_byt
 ghost use Rattle.clap.specs.Words.{first_of, found_of, kind_of, rows_of, subcommand_rows_of};
 ghost use Rattle.agenda_arguments.specs.Arguments.ArgumentsFault.{is_usage};
 ghost use Rattle.agenda_arguments.specs.Arguments.{Follows, Gives, IsAnswerTo, are_of_machine, asked_by, asked_by_agenda, asked_by_check};
-ghost use Rattle.agenda_arguments.specs.Arguments.{asked_by_describe, asked_by_explain, asked_by_next, asked_by_plan, asked_by_quiet, asked_by_steps};
+ghost use Rattle.agenda_arguments.specs.Arguments.{asked_by_describe, asked_by_explain, asked_by_rule, asked_by_next, asked_by_plan, asked_by_quiet, asked_by_steps};
 ghost use Rattle.agenda_arguments.specs.Arguments.{asked_by_subcommand, asked_by_upcoming, format_in, jobs_in, one_rule, plan_in};
 ghost use Rattle.agenda_arguments.specs.Arguments.{sizes_in, zones_in};
 
@@ -240,10 +240,16 @@ fn asked_by_check(alloc: Global, given: &ArgMatches<'_>) -> Result<Ask, UsageFau
 fn asked_by_describe(alloc: Global, given: &ArgMatches<'_>) -> Result<Ask, UsageFault>
     ensures { Follows result (asked_by_describe (rows_of (found_of given.now))) }
 {
-    if value_of(given, "cron").is_none() && value_of(given, "calendar").is_none() {
-        let jobs = jobs_of(alloc, given)?;
-        return Ok(Ask::DescribeJobs(jobs));
+    match (value_of(given, "cron"), value_of(given, "calendar")) {
+        (None, None) => Ok(Ask::DescribeJobs(jobs_of(alloc, given)?)),
+        _ => asked_by_rule(alloc, given),
     }
+}
+
+// Returns the request to describe the given rule, which comes without files.
+fn asked_by_rule(alloc: Global, given: &ArgMatches<'_>) -> Result<Ask, UsageFault>
+    ensures { Follows result (asked_by_rule (rows_of (found_of given.now))) }
+{
     let rule = rule_of(alloc, given)?;
     let sources = sources_of(alloc, given)?;
     if !sources.as_slice().is_empty() {

@@ -219,8 +219,8 @@ fn asked_by_machine_describe(alloc: Global, given: &ArgMatches<'_>) -> Result<As
     let table = table_of(alloc, given)?;
     let json = is_given(given, "json");
     if let Some(text) = text_if_given(alloc, given, "rule")? {
-        let rule = Asked::of_text(alloc, text)?;
-        return Ok(Ask::MachineDescribe { rule, json });
+        let asked = Asked::of_text(alloc, text)?;
+        return Ok(Ask::MachineDescribe { rule: asked, json });
     }
     let describe = MachineDescribe {
         zone,
