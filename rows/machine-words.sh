@@ -134,6 +134,42 @@ Examples:
   agenda machine next '30 2 * * *'
   agenda machine next 'Mon..Fri 09:00 Europe/Berlin' --count 1
 END
+  cat >"$machine_words_folder/describe.text" <<'END'
+Says in words when each job of a machine starts
+
+Usage: agenda machine describe [OPTIONS] [RULE]
+
+Arguments:
+  [RULE]  A cron rule of five words, or one that begins with @,
+          or a calendar event of systemd; put it in quotes
+
+Options:
+      --root <DIR>    Read the machine whose root directory is DIR [default: /]
+      --all           Include timers that aren't enabled
+      --zone <ZONE>   The time zone of the rules, such as Europe/Berlin,
+                      or the path of a TZif file; that of the machine
+                      if it isn't given
+      --utc           Read the rules in UTC, like --zone UTC, and print
+                      times in UTC
+      --except <JOB>  Ignore the job with this name, as it is printed;
+                      may be given more than once
+      --strict        Let an error in a file stop the answer, instead of
+                      skipping what is invalid
+      --table         Print a table, also if standard output isn't a terminal
+      --text          Print text, also on a terminal
+      --json          Print each line as a JSON object; agenda(1)
+                      describes the keys
+  -h, --help          Print help
+
+Prints what 'agenda describe' prints, about the files that 'agenda machine sources' lists,
+or, with a RULE, about this rule alone. Standard error has a line for each file that is
+skipped or isn't planned, and the errors of the files. The exit status is 1 if there is
+such an error or if a file can't be read, otherwise 0.
+
+Examples:
+  agenda machine describe
+  agenda machine describe 'Mon..Fri 09:00 Europe/Berlin'
+END
 }
 
 # Each row has a text and words that ask for it.
@@ -154,6 +190,8 @@ check check|-h
 check check|--root|none|--utc|--zone|UTC|-h
 next next|--help
 next next|daily|--utc|-h
+describe describe|--help
+describe describe|daily|--root|none|-h
 END
 }
 
@@ -197,21 +235,21 @@ Usage: agenda machine next [OPTIONS] <RULE>
 For more information, try '--help'.
 END
   for words in 'check|--zone|Europe/Berlin|--utc' 'check|--utc|--root=none|--zone=UTC' 'check|--utc|--zone=' '--utc|--zone=UTC' \
-    'upcoming|--utc|--zone=UTC' 'plan|--utc|--zone=UTC' 'quiet|--utc|--zone=UTC' 'next|daily|--utc|--zone=UTC'; do
+    'upcoming|--utc|--zone=UTC' 'plan|--utc|--zone=UTC' 'quiet|--utc|--zone=UTC' 'next|daily|--utc|--zone=UTC' 'describe|--utc|--zone=UTC' 'describe|daily|--utc|--zone=UTC'; do
     machine_words_tell_usage "$words" <<'END'
 error: the argument '--zone <ZONE>' cannot be used with '--utc'
 
 For more information, try '--help'.
 END
   done
-  for words in '--table|--text' 'plan|--text|--json|--table' 'quiet|--text|--table' 'next|daily|--table|--text'; do
+  for words in '--table|--text' 'plan|--text|--json|--table' 'quiet|--text|--table' 'next|daily|--table|--text' 'describe|daily|--table|--text'; do
     machine_words_tell_usage "$words" <<'END'
 error: the argument '--table' cannot be used with '--text'
 
 For more information, try '--help'.
 END
   done
-  for words in 'upcoming|--json|--table' 'next|--json|daily|--table'; do
+  for words in 'upcoming|--json|--table' 'next|--json|daily|--table' 'describe|--json|--table'; do
     machine_words_tell_usage "$words" <<'END'
 error: the argument '--table' cannot be used with '--json'
 
@@ -258,6 +296,9 @@ sources|--utc => error: unexpected argument '--utc' found
 sources|--crontab=a => error: unexpected argument '--crontab' found
 sources|--keep-going => error: unexpected argument '--keep-going' found
 sources|--version => error: unexpected argument '--version' found
+describe|daily|hourly => error: unexpected argument 'hourly' found
+describe|--after=now => error: unexpected argument '--after' found
+describe|--count=1 => error: unexpected argument '--count' found
 sources|-x => error: unexpected argument '-x' found
 check|a.timer => error: unexpected argument 'a.timer' found
 check|tomorrow => error: unexpected argument 'tomorrow' found
