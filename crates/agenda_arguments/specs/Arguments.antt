@@ -320,9 +320,9 @@ asked_by_machine_next rows = do
 
 -- what `machine describe` requests, by its rule and the other values: the rule alone, or else the jobs of the machine (agenda)
 abbrev pub asked_of_description : Option (List ℕ) → (zone : Option (List ℕ)) → TableRequest → List Row → Result Ask ArgumentsFault
-asked_of_description (Some text) zone table rows = Ok (MachineDescribe (asked_in text) (is_given (codes "json") rows))
-asked_of_description None zone table rows = asked_of_machine rows (question.Describe (record {
-  zone = zone;
+asked_of_description (Some text) given table rows = Ok (MachineDescribe (asked_in text) (is_given (codes "json") rows))
+asked_of_description None given table rows = asked_of_machine rows (question.Describe (record {
+  zone = given;
   except = all_values (codes "except") rows;
   strict = is_given (codes "strict") rows;
   json = is_given (codes "json") rows;
