@@ -243,12 +243,11 @@ largest_checks() {
 # What `check` quotes of a text of 1,048,576 bytes.
 largest_quotes() {
   local quoted=1111111111111111111111111111111111111111111111111111111111111111
+  local ignored='cron ignores this file: no newline at its end [CronIgnores]'
   { yes 1 | tr -d '\n' | head -c 1048566 && printf ' * * * * x'; } | largest_file digits 1048576
   largest_run digits 0 check --crontab digits
   compare_texts "check of a minute of 1,048,566 digits" \
-    "digits:1: error: minute '$quoted'...: not a number of one to four digits [BadNumber]"$'\n'"$(
-      echo 'digits:1: warning: cron ignores this file: no newline at its end [CronIgnores]'
-    )"$'\n' '' 1
+    "digits:1: error: minute '$quoted'...: not a number of one to four digits [BadNumber]"$'\n'"digits:1: warning: $ignored"$'\n' '' 1
   { printf '[Timer]\nOnCalendar=' && yes 1 | tr -d '\n'; } | largest_file on.timer 1048576
   largest_run on.timer 0 check on.timer
   compare_texts "check of an event of 1,048,557 digits" \
