@@ -1,8 +1,8 @@
 # shellcheck shell=bash disable=SC2154
 # Rows of bin/check-examples: the largest texts and agendas. Each run has 2 s of processor time. Its memory is
-# 128 bytes for each byte that it reads, 16 for each start within its limit, and 8 MB for the program, its
-# threads and their stacks of 512 KB. A run that needs more memory would answer NoMemory, and one that takes
-# longer is killed.
+# 128 bytes for each byte that it reads, or 144 for `check`, 16 for each start within its limit, and 8 MB for
+# the program, its threads and their stacks of 512 KB. A run that needs more memory would answer NoMemory, and
+# one that takes longer is killed.
 
 largest_folder="$work/largest"
 mkdir "$largest_folder"
@@ -11,13 +11,14 @@ largest_day=(--since "$largest_since" --upto 2024-01-02T00:00:00Z)
 
 # Runs the program with the arguments from $3 on, in the memory for the file $1 and for $2 starts.
 largest_run() {
-  local bytes starts=$2
+  local bytes starts=$2 each=128
   bytes=$(stat -L -c %s "$largest_folder/$1")
   [ "$bytes" -le 1048577 ] || bytes=1048577
   shift 2
+  [ "$1" != check ] || each=144
   # shellcheck disable=SC2016
   run_in "$largest_folder" bash -c 'ulimit -c 0; ulimit -t 2; ulimit -s 512; ulimit -d "$0"; exec agenda "$@"' \
-    $((8192 + (128 * bytes + 16 * starts) / 1024)) "$@"
+    $((8192 + (each * bytes + 16 * starts) / 1024)) "$@"
 }
 
 # Checks the file $2, a crontab or a timer, on one day. $1 is the name of the row. $3 is the line of the

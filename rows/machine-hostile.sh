@@ -28,7 +28,7 @@ etc/crontab>\x2f\x2fopt\x2f\x2f.\x2fx opt/x|etc/crontab|
 etc/cron.d>/opt/c opt/c/a>../x opt/x|C/a|
 etc/cron.d>../../../outer.d outer.d/a|C/a|
 var/spool>/opt/s opt/s/cron/crontabs/a|S/a|
-var>usr/var usr/var/spool/cron/a|F/a|
+var>usr/var usr/var/spool/cron/a|F/a|not F/a cron ignores this file: mode 0644; not 0600
 *a.timer E/a.timer>../../../../../outside outside|E/a.timer|
 *a.timer E/a.timer>/opt/b opt>/srv srv/b|E/a.timer|
 etc/systemd>/opt/s opt/s/system/x.target.wants/a.timer>b opt/s/system/a.timer|E/a.timer|
@@ -90,13 +90,13 @@ hostile_chain() {
   printf ' l/%d>/x' "$2"
 }
 
-# Rows from standard input: a path that is found by 40 links and not by 41, the other entries of the root, the source, and
-# what isn't readable if that isn't the path.
+# Rows from standard input: a path that is found by 40 links and not by 41, the other entries of the root, the source,
+# what isn't readable if that isn't the path, and what is reported of the source that is found.
 hostile_chains() {
-  local path others source unread
-  while IFS='|' read -r path others source unread; do
+  local path others source unread reported
+  while IFS='|' read -r path others source unread reported; do
     program_sources < <(
-      printf '%s|%s|\n' "$(hostile_chain "$path" 40 "$others")" "$source"
+      printf '%s|%s|%s\n' "$(hostile_chain "$path" 40 "$others")" "$source" "$reported"
       printf '%s||%s not readable\n' "$(hostile_chain "$path" 41 "$others")" "${unread:-$path}"
     )
   done
@@ -105,10 +105,10 @@ hostile_chains() {
 hostile_chains <<'ROWS'
 etc/crontab|x|etc/crontab
 C/a|x|C/a
-S/a|x|S/a
+S/a|x|S/a||not S/a cron ignores this file: a link; not a regular file
 E/a.timer|x *a.timer|E/a.timer
 etc/cron.d|x/a|C/a
-var/spool/cron|x/a|F/a|var/spool/cron/crontabs
+var/spool/cron|x/a|F/a|var/spool/cron/crontabs|not F/a cron ignores this file: mode 0644; not 0600
 ROWS
 
 # The links of directories and of the file count together: 2 of `etc`, 38 or 39 of the file.

@@ -49,7 +49,8 @@ compare_spans() {
   for which in 0 1; do
     (agenda_spans "$directory/$which" plan --delays "${day[@]}") | grep -v '^agenda 3' >"$directory/plan.$which"
   done
-  (agenda_spans "$directory/0" check) >"$directory/found"
+  # each timer has a start each second, and some texts have a carriage return
+  (agenda_spans "$directory/0" check --allow Merged --allow LineEnd) >"$directory/found"
   awk -f "$parts/zone-clock.awk" -f "$parts/span-judge.awk" -v most=$most_delay file=1 "$directory/texts" file=2 "$directory/seconds" \
     file=3 "$directory/plan.0" file=4 "$directory/plan.1" file=5 "$directory/found" >"$directory/verdicts"
   tell_spans "$directory"
