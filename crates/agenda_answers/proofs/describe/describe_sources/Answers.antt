@@ -20,7 +20,7 @@ returns-in_err-answer g c =
     goes _ c.in_ok-tried.ensures.read (goes _
     (kept_made c.args.jobs.now.keep_going c.in_ok-tried.zones c.in_ok-tried.tried.sources _ _ c.in_ok-errors.ensures.errors
     c.in_ok-errors.ensures.jobs)
-    (failed _ _ (described_answer _ c.prepare_description-made.result (Err _) c.prepare_description-made.ensures c.in_err-answer.ensures)
+    (failed _ _ (described_answer _ c.prepare_description-made.result (Err _) c.prepare_description-made.ensures.answer c.in_err-answer.ensures)
     c.from_residual-in_err-answer.ensures.1))
 
 pub returns : goal.returns
@@ -28,6 +28,6 @@ returns g c =
     goes _ c.in_ok-tried.ensures.read (goes _
     (kept_made c.args.jobs.now.keep_going c.in_ok-tried.zones c.in_ok-tried.tried.sources _ _ c.in_ok-errors.ensures.errors
     c.in_ok-errors.ensures.jobs)
-    (goes _ (described_answer _ c.prepare_description-made.result (Ok c.in_ok-answer.answer) c.prepare_description-made.ensures
+    (goes _ (described_answer _ c.prepare_description-made.result (Ok c.in_ok-answer.answer) c.prepare_description-made.ensures.answer
     c.in_ok-answer.ensures)
     (rw (c.skipped_status-status.ensures, c.as_slice.ensures, c.as_slice-2.ensures.value) refl)))
