@@ -162,7 +162,7 @@ times_rejected (Quiet plan least) failure (stops found (goes span is same) again
 times_rejected (Quiet plan least) failure (goes planning is same) = absurd cc
 times_rejected (Check zones sources policy json) failure is = is
 times_rejected (Describe rule zones json) failure is = is
-times_rejected (DescribeJobs jobs) failure is = is
+times_rejected (DescribeJobs jobs) failure is = absurd cc
 times_rejected (Steps file) failure is = is
 times_rejected (Explain code) failure is = is
 times_rejected (Machine machine) failure is = is

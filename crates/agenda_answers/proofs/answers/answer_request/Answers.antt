@@ -17,6 +17,9 @@ returns-in-Describe-clause-answers g c = rw c.in-Describe.is (_, c.describe.ensu
 pub returns-in-DescribeJobs-clause-answers : goal.returns-in-DescribeJobs-clause-answers
 returns-in-DescribeJobs-clause-answers g c = rw c.in-DescribeJobs.is c.answer_descriptions.ensures.answers
 
+pub returns-in-MachineDescribe-clause-answers : goal.returns-in-MachineDescribe-clause-answers
+returns-in-MachineDescribe-clause-answers g c = rw c.in-MachineDescribe.is c.answer_machine_describe.ensures.answers
+
 pub returns-in-Steps-clause-answers : goal.returns-in-Steps-clause-answers
 returns-in-Steps-clause-answers g c = rw c.in-Steps.is (_, c.steps.ensures.ends, c.end-in-Steps.ensures.exits)
 

@@ -3,6 +3,9 @@ use Rattle.agenda_faults.specs.declared.faults.Failure.TheVariants.{Run}
 use Rattle.agenda_faults.specs.declared.faults.RunFault.TheVariants as run
 use Rattle.agenda_inputs.specs.Steps.{goes}
 use Rattle.agenda_machine.specs.Loaded.{loaded_sources}
+use Rattle.agenda_machine.specs.Root.{dir_of, root_of}
+use Rattle.agenda_answers.specs.Host.{host_of}
+use Rattle.agenda_answers.specs.Machine.{host_below}
 use Rattle.agenda_answers.proofs.MachineLemmas.{described_as_planned, shown_as_planned}
 use Rattle.agenda_inputs.proofs.StepLemmas.{failed}
 use Rattle.agenda_answers.proofs.machine.make_answer.Goals as goal
@@ -34,7 +37,10 @@ pub returns-in_ok-loaded-in-Describe : goal.returns-in_ok-loaded-in-Describe
 returns-in_ok-loaded-in-Describe g c =
     goes _ (rw (c.dir_of-dir.ensures, c.as_str.ensures) at c.in_ok-machine.ensures)
     (rw c.in-Describe.is (goes _ c.in_ok-loaded-in-Describe.ensures.unplanned
-    (described_as_planned _ _ _ c.in-Describe.describe c.in_ok-machine.machine c.in_ok-loaded-in-Describe.loaded.machine
+    (described_as_planned _
+    (host_below (host_of g.T.Tree.is_known (g.T.Tree.held c.args.host.now.tree.now) c.args.host.now.time c.args.host.now.frame)
+        (root_of (dir_of c.args.request.now.root)))
+    _ c.in-Describe.describe c.in_ok-machine.machine c.in_ok-loaded-in-Describe.loaded.machine
     (loaded_sources c.in_ok-machine.machine) _ c.in_ok-loaded-in-Describe.ensures.others
     (rw (c.in_ok-loaded-in-Describe.ensures.planned, c.new-below.ensures, c.root_of.ensures, c.dir_of-dir.ensures, c.as_str.ensures)
     at c.descriptions_answer.ensures))))
