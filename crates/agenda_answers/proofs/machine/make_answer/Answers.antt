@@ -39,7 +39,7 @@ returns-in_ok-loaded-in-Describe g c =
     (rw c.in-Describe.is (goes _ c.in_ok-loaded-in-Describe.ensures.unplanned
     (described_as_planned _
     (host_below (host_of g.T.Tree.is_known (g.T.Tree.held c.args.host.now.tree.now) c.args.host.now.time c.args.host.now.frame)
-        (root_of (dir_of c.args.request.now.root)))
+    (root_of (dir_of c.args.request.now.root)))
     _ c.in-Describe.describe c.in_ok-machine.machine c.in_ok-loaded-in-Describe.loaded.machine
     (loaded_sources c.in_ok-machine.machine) _ c.in_ok-loaded-in-Describe.ensures.others
     (rw (c.in_ok-loaded-in-Describe.ensures.planned, c.new-below.ensures, c.root_of.ensures, c.dir_of-dir.ensures, c.as_str.ensures)
