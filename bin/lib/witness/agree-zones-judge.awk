@@ -18,6 +18,13 @@ function is_near_change(start, at, second) {
   return 0
 }
 
+# Keeps the start after this time of the job of a line of JSON. Years after 2199 are after systemd's last.
+function keep_start(time, line, start) {
+  start = line ~ /^[{]"start":null,/ ? "none" : substr(line, 11, 20)
+  if (start >= "2200" && start < "3") start = "none"
+  starts[time, substr(line, index(line, "\"job\":\"") + 7) + 0] = start
+}
+
 function verdict_of(n, at, time, agenda, systemd, verdict) {
   verdict = n in may_stop ? "MayStop: systemd may stop for good" : "the same starts"
   for (at = 1; at <= asked; at++) {
@@ -37,7 +44,7 @@ BEGIN { FS = "\t" }
 file == 1 { changes[++count] = $2 }
 file == 2 { numbers[++events] = $1 }
 file == 3 && $1 == "found" && /\[(MayStop|SkippedStarts)\]/ { may_stop[$2 + 0] }
-file == 3 && $1 != "found" { starts[$1, substr($2, index($2, "\"job\":\"") + 7) + 0] = $2 ~ /^[{]"start":null,/ ? "none" : substr($2, 11, 20) }
+file == 3 && $1 != "found" { keep_start($1, $2) }
 file == 4 {
   if (!($1 in seen)) {
     seen[$1]
