@@ -3,7 +3,7 @@
 # name no command. bin/agenda sources this file, after bin/lib/project.sh and bin/lib/preview.sh.
 
 # The command line of the program, and the help texts that the rows compare with those of the program.
-command_source=$top/crates/agenda_arguments/src/command.rt
+command_source=$top/crates/agenda_options/src/command.rt
 help_source=$top/rows/words.sh
 
 # Prints the names of the commands, one per line.

@@ -26,7 +26,7 @@ use Rattle.clap.specs.declared.error.kind.ErrorKind.TheVariants as kind
 use Rattle.agenda_arguments.specs.declared.ask.Ask.{Ask}
 use Rattle.agenda_arguments.specs.declared.ask.UsageFault.{UsageFault}
 use Rattle.agenda_arguments.specs.declared.ask.UsageFault.TheVariants.{NoMemory}
-use Rattle.agenda_arguments.specs.Command.{agenda, machine}
+use Rattle.agenda_options.specs.Command.{agenda, machine}
 use Rattle.agenda_arguments.specs.Arguments.{Follows, IsAnswerTo, ArgumentsFault, asked_unless, is_usage, fault_of_kind}
 use Rattle.agenda_arguments.proofs.OnLiterals.{agenda_on_literals}
 

@@ -37,7 +37,7 @@ use Rattle.agenda_arguments.specs.declared.ask.ZonesRequest.{ZonesRequest}
 use Rattle.plan_rules.specs.declared.SourceKind.{SourceKind}
 use Rattle.agenda_sources.specs.declared.SourcePath.{SourcePath}
 use Rattle.plan_rules.specs.SourceKind.{is_many, kinds, option_of}
-use Rattle.agenda_arguments.specs.Command.{agenda, machine}
+use Rattle.agenda_options.specs.Command.{agenda, machine}
 use Rattle.agenda_arguments.specs.Hint.{hinted, time_options}
 
 -- why arguments request no command: they request help or the version, or they are invalid (agenda)

@@ -1,4 +1,3 @@
-pub mod Command
 pub mod Arguments
 pub mod Codes
 pub mod Tables

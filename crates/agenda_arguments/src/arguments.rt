@@ -11,10 +11,10 @@ use crate::ask::{
     Ask, FormatRequest, JobsRequest, NextRequest, PlanRequest, UsageFault, ZonesRequest,
 };
 use crate::codes::{code_of, policy_of};
-use crate::command::agenda_command;
 use crate::machine::asked_about_machine;
 use crate::paths::sources_of;
 use crate::values::{is_given, number_argument, text, text_if_given, text_of, value_of};
+use agenda_options::agenda_command;
 use agenda_sources::Asked;
 use clap::ArgMatches;
 use clap::error::ErrorKind;

@@ -1,16 +1,14 @@
 //! The arguments of the command line: what they request, or the text of help or of a usage error.
 //!
-//! The crate uses the kit's `clap`, plan_texts for the texts that it keeps, plan_rules for the table of the kinds of
-//! sources, agenda_sources for their paths, agenda_codes for the codes that can be explained, and agenda_policy for
-//! the warnings that `check` denies or allows. Read `arguments`
-//! first, then `machine` for the arguments of `agenda machine`, and `command`, which describes both command lines to
-//! clap, with the texts in its `help`.
+//! The crate uses the kit's `clap`, agenda_options for both command lines, plan_texts for the texts that it keeps,
+//! plan_rules for the table of the kinds of sources, agenda_sources for their paths, agenda_codes for the codes that can
+//! be explained, and agenda_policy for the warnings that `check` denies or allows. Read `arguments` first, then `machine`
+//! for the arguments of `agenda machine`.
 #![tactic(auto)]
 
 mod arguments;
 mod ask;
 mod codes;
-mod command;
 mod hint;
 mod machine;
 mod names;

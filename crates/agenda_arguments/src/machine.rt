@@ -12,10 +12,10 @@ use crate::ask::{
     MachineQuestion, MachineRequest, SpanRequest, TableRequest, UsageFault,
 };
 use crate::codes::policy_of;
-use crate::command::machine_command;
 use crate::hint::{time_options, with_hint};
 use crate::names::names_of;
 use crate::values::{is_given, number_argument, text, text_if_given, text_of, value_of};
+use agenda_options::machine_command;
 use agenda_sources::Asked;
 use clap::ArgMatches;
 use plan_texts::Text;

@@ -2,7 +2,7 @@
 use Rattle.std.specs.Prelude.{ℕ, List, [], ◌∷◌, find, Option, codes}
 use Rattle.std.specs.Str.{str_eq_ignore_ascii_case}
 use Rattle.agenda_codes.specs.declared.code.Code.{Code}
-use Rattle.agenda_codes.specs.declared.code.Code.TheVariants.{Backwards, BadCount, BadDelay, BadForm, BadLeast, BadLength, BadLimit, BadLine}
+use Rattle.agenda_codes.specs.declared.code.Code.TheVariants.{Backwards, BadBoolean, BadCount, BadDelay, BadForm, BadLeast, BadLength, BadLimit, BadLine}
 use Rattle.agenda_codes.specs.declared.code.Code.TheVariants.{BadName, BadNumber, BadSetting, BadSize, BadTabName, BadTime, BadTimerName, BadZone}
 use Rattle.agenda_codes.specs.declared.code.Code.TheVariants.{BadZoneName, CarriageReturn, Delayed, Device, EitherDay, Fraction}
 use Rattle.agenda_codes.specs.declared.code.Code.TheVariants.{Full, Monotonic, NeverStarts, NoCommand, NoEvents, NoMemory}
@@ -20,13 +20,13 @@ use Rattle.agenda_codes.specs.declared.texts.rules.TheConstants.{UNKNOWN_WORD, W
 use Rattle.agenda_codes.specs.declared.texts.files.TheConstants.{BAD_LINE, BAD_SETTING, BAD_TAB_NAME, BAD_TIMER_NAME, FULL}
 use Rattle.agenda_codes.specs.declared.texts.files.TheConstants.{NO_COMMAND, NO_TIMER_SECTION, NOT_UTF8, SAME_NAME, TOO_LARGE}
 use Rattle.agenda_codes.specs.declared.texts.files.TheConstants.{TOO_MANY_LINES, TOO_MANY_STEPS}
-use Rattle.agenda_codes.specs.declared.texts.warnings.TheConstants.{BAD_DELAY, CARRIAGE_RETURN, DELAYED, EITHER_DAY, MONOTONIC, NEVER_STARTS}
+use Rattle.agenda_codes.specs.declared.texts.warnings.TheConstants.{BAD_BOOLEAN, BAD_DELAY, CARRIAGE_RETURN, DELAYED, EITHER_DAY, MONOTONIC, NEVER_STARTS}
 use Rattle.agenda_codes.specs.declared.texts.warnings.TheConstants.{NO_EVENTS, PERCENT, SKIPPED_STARTS, UNKNOWN_KEY, ZONE_SETTING}
 use Rattle.agenda_codes.specs.declared.texts.warnings.TheConstants.{CRON_DIFFERS, CRON_IGNORES, LINE_END, MAY_STOP, MERGED, NO_USER, RANGE_FROM_END, SYSTEMD_REJECTS, TIMER_REJECTED, UNIT_IGNORED}
 
 -- all codes, in the order of their names
 unfoldable pub all_codes : List Code
-all_codes = Backwards ∷ BadCount ∷ BadDelay ∷ BadForm ∷ BadLeast ∷ BadLength ∷ BadLimit ∷ BadLine ∷ BadName
+all_codes = Backwards ∷ BadBoolean ∷ BadCount ∷ BadDelay ∷ BadForm ∷ BadLeast ∷ BadLength ∷ BadLimit ∷ BadLine ∷ BadName
     ∷ BadNumber ∷ BadSetting ∷ BadSize ∷ BadTabName ∷ BadTime ∷ BadTimerName ∷ BadZone ∷ BadZoneName ∷ CarriageReturn
     ∷ CronDiffers ∷ CronIgnores ∷ Delayed ∷ Device ∷ EitherDay ∷ Fraction ∷ Full ∷ LineEnd ∷ MayStop ∷ Merged
     ∷ Monotonic ∷ NeverStarts ∷ NoCommand ∷ NoEvents ∷ NoMemory ∷ NoSuchDate ∷ NoSuchZone ∷ NoTimerSection ∷ NoUser
@@ -37,6 +37,7 @@ all_codes = Backwards ∷ BadCount ∷ BadDelay ∷ BadForm ∷ BadLeast ∷ Bad
 -- the name of a code
 abbrev pub name_of : Code → List ℕ
 name_of Backwards = codes "Backwards"
+name_of BadBoolean = codes "BadBoolean"
 name_of BadCount = codes "BadCount"
 name_of BadDelay = codes "BadDelay"
 name_of BadForm = codes "BadForm"
@@ -107,6 +108,7 @@ code_named name = first_named name all_codes
 -- what a code means, in one sentence
 abbrev pub sentence_of : Code → List ℕ
 sentence_of Backwards = sentence.BACKWARDS.now
+sentence_of BadBoolean = sentence.BAD_BOOLEAN.now
 sentence_of BadCount = sentence.BAD_COUNT.now
 sentence_of BadDelay = sentence.BAD_DELAY.now
 sentence_of BadForm = sentence.BAD_FORM.now
@@ -169,6 +171,7 @@ sentence_of ZoneSetting = sentence.ZONE_SETTING.now
 -- what a code means and what to do about it, in lines
 abbrev pub text_of : Code → List ℕ
 text_of Backwards = BACKWARDS.now
+text_of BadBoolean = BAD_BOOLEAN.now
 text_of BadCount = BAD_COUNT.now
 text_of BadDelay = BAD_DELAY.now
 text_of BadForm = BAD_FORM.now

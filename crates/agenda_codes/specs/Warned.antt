@@ -1,12 +1,13 @@
 -- The codes of warnings (agenda).
 use Rattle.std.specs.Prelude.{Bool, true, false}
 use Rattle.agenda_codes.specs.declared.code.Code.{Code}
-use Rattle.agenda_codes.specs.declared.code.Code.TheVariants.{BadDelay, CarriageReturn, CronDiffers, CronIgnores, Delayed, EitherDay, LineEnd}
+use Rattle.agenda_codes.specs.declared.code.Code.TheVariants.{BadBoolean, BadDelay, CarriageReturn, CronDiffers, CronIgnores, Delayed, EitherDay, LineEnd}
 use Rattle.agenda_codes.specs.declared.code.Code.TheVariants.{MayStop, Merged, Monotonic, NeverStarts, NoEvents, NoUser, Percent}
 use Rattle.agenda_codes.specs.declared.code.Code.TheVariants.{RangeFromEnd, SkippedStarts, SystemdRejects, TimerRejected, UnitIgnored, UnknownKey, ZoneSetting}
 
 -- whether a code is that of a warning; the others are those of errors
 abbrev pub is_of_warning : Code → Bool
+is_of_warning BadBoolean = true
 is_of_warning BadDelay = true
 is_of_warning CarriageReturn = true
 is_of_warning CronDiffers = true

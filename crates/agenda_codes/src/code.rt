@@ -12,6 +12,8 @@ use std::convert::AsStr;
 pub enum Code {
     /// A range in a rule, or the span of --since and --upto, ends before it starts.
     Backwards,
+    /// The value of `Persistent=` isn't a boolean, so systemd ignores it.
+    BadBoolean,
     /// The number of --count isn't 1 to 1,000.
     BadCount,
     /// The value of `RandomizedDelaySec=` or `AccuracySec=` isn't a time span, so systemd ignores it.
@@ -134,11 +136,12 @@ pub enum Code {
 impl Code {
     /// Returns all codes, in the order of their names.
     #[tactic(auto, unfolding(crate::specs::Codes::all_codes))]
-    pub fn all() -> [Code; 59]
+    pub fn all() -> [Code; 60]
         ensures { result ≡ all_codes }
     {
         [
             Code::Backwards,
+            Code::BadBoolean,
             Code::BadCount,
             Code::BadDelay,
             Code::BadForm,
@@ -208,6 +211,7 @@ impl Code {
     {
         match self {
             Code::Backwards => "Backwards",
+            Code::BadBoolean => "BadBoolean",
             Code::BadCount => "BadCount",
             Code::BadDelay => "BadDelay",
             Code::BadForm => "BadForm",
@@ -297,6 +301,7 @@ impl Code {
     {
         match self {
             Code::Backwards => sentences::BACKWARDS,
+            Code::BadBoolean => sentences::BAD_BOOLEAN,
             Code::BadCount => sentences::BAD_COUNT,
             Code::BadDelay => sentences::BAD_DELAY,
             Code::BadForm => sentences::BAD_FORM,
@@ -364,6 +369,7 @@ impl Code {
     {
         match self {
             Code::Backwards => rules::BACKWARDS,
+            Code::BadBoolean => warnings::BAD_BOOLEAN,
             Code::BadCount => requests::BAD_COUNT,
             Code::BadDelay => warnings::BAD_DELAY,
             Code::BadForm => requests::BAD_FORM,

@@ -12,7 +12,8 @@ impl Code {
     {
         matches!(
             self,
-            Code::BadDelay
+            Code::BadBoolean
+                | Code::BadDelay
                 | Code::CarriageReturn
                 | Code::CronDiffers
                 | Code::CronIgnores

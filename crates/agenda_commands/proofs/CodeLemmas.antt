@@ -109,6 +109,7 @@ warning_has warning.ZoneSetting = warns code.ZoneSetting refl
 warning_has warning.SkippedStarts = warns code.SkippedStarts refl
 warning_has warning.UnknownKey = warns code.UnknownKey refl
 warning_has warning.BadDelay = warns code.BadDelay refl
+warning_has warning.BadBoolean = warns code.BadBoolean refl
 warning_has warning.Monotonic = warns code.Monotonic refl
 warning_has warning.Delayed = warns code.Delayed refl
 warning_has warning.SystemdRejects = warns code.SystemdRejects refl

@@ -4,7 +4,7 @@ ghost use Rattle.std.specs.Prelude.{◌≡◌, IfOk, IsTrue, OnOk, map};
 ghost use Rattle.agenda_commands.specs.Command.{Outputs};
 ghost use Rattle.agenda_commands.specs.Describe.{description_output, described_text, sentence_output};
 ghost use Rattle.agenda_commands.specs.Goal.{Makes};
-ghost use Rattle.agenda_commands.specs.Prepare.{jobs_or, prepared_text};
+ghost use Rattle.agenda_commands.specs.Prepare.{jobs_or};
 ghost use Rattle.agenda_describe.specs.Jobs.{described};
 
 use crate::prepare::{Form, Prepared, PreparedAnswer, jobs_or};

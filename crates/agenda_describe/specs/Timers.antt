@@ -6,7 +6,7 @@ use Rattle.plan_grammar.specs.EventZones.{Zones}
 use Rattle.plan_rules.specs.LineFaults.{LineReading, TextReading}
 use Rattle.plan_rules.specs.Names.{with_name}
 use Rattle.plan_rules.specs.Timer.{timer_setting}
-use Rattle.plan_rules.specs.TimerDelays.{Setting}
+use Rattle.plan_rules.specs.TimerOptions.{Setting}
 use Rattle.plan_rules.specs.TimerEntries.{Empties, Has, LineStep, TimerState, line_in, no_lines, state_after, timer_lines}
 use Rattle.agenda_describe.specs.Sentences.{event_sentence}
 

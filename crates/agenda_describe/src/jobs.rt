@@ -1,12 +1,12 @@
 //! The sentences of jobs.
 
 ghost use Rattle.std.specs.Prelude.{◌≡◌, IfOk, map, option_map};
-ghost use Rattle.plan_write.specs.Texts.{run_text};
 ghost use Rattle.agenda_describe.specs.Jobs.{bytes_of_timer, described, is_timer_named, job_sentence, rule_sentence};
 
 use crate::rule::crontab_sentence;
 use crate::timer::timer_sentence;
 use agenda_sources::{Source, Sources};
+use agenda_table::runs_of;
 use plan_rules::{EventZones, Job, Jobs, Rule, SourceKind, Text};
 use std::alloc::{AllocError, Global};
 use std::marker::Model;
@@ -100,18 +100,6 @@ fn copy_of(alloc: Global, text: &str) -> Result<Text, AllocError>
     ensures { IfOk result (λ copy. copy ≡ text.now) }
 {
     Ok(Text::new(String::from_str(alloc, text)?))
-}
-
-// Returns what a job runs.
-fn runs_of(alloc: Global, job: &Job) -> Result<Text, AllocError>
-    ensures { IfOk result (λ text. text ≡ run_text job.now.user job.now.command) }
-{
-    let command = job.command();
-    let text = match job.user() {
-        Some(user) => format!(in alloc; "{user} {command}")?,
-        None => String::from_str(alloc, command)?,
-    };
-    Ok(Text::new(text))
 }
 
 // Returns the sentence of a job.

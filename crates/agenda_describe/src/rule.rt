@@ -1,6 +1,6 @@
 //! The sentences of cron rules and of calendar events.
 
-ghost use Rattle.std.specs.Prelude.{◌≡◌, IfOk, string_bytes};
+ghost use Rattle.std.specs.Prelude.{◌≡◌, IfOk};
 ghost use Rattle.plan_rules.specs.Readings.{Gives};
 ghost use Rattle.agenda_describe.specs.Sentences.{asked_sentence, crontab_sentence, event_sentence, zone_of};
 

@@ -2,12 +2,11 @@
 
 ghost use Rattle.std.specs.Prelude.{◌≡◌, ◌∷◌, [], IfOk, IsTrue, OnOk, chars, string_bytes};
 ghost use Rattle.plan_streams.specs.Stream.{Puts};
-ghost use Rattle.agenda_table.specs.Last.{plural};
 ghost use Rattle.agenda_table.specs.Layout.{table_text};
 ghost use Rattle.agenda_describe.specs.Texts.{description_cells, description_row, description_rows, jobs_text};
 
 use crate::jobs::{DescribedJob, Descriptions};
-use agenda_table::{Cell, Frame, RowSink, Rows, write_table};
+use agenda_table::{Cell, Frame, RowSink, Rows, plural, write_table};
 use plan_rules::Text;
 use plan_streams::{Stream, WriteFault};
 use std::alloc::{AllocError, Global};
@@ -82,11 +81,4 @@ pub fn jobs_text(alloc: Global, count: usize, zone: &str) -> Result<Text, AllocE
 {
     let s = plural(count);
     Ok(Text::new(format!(in alloc; "{count} job{s}, {zone}")?))
-}
-
-// Returns the ending of the name of so many things.
-fn plural(count: usize) -> &'static str
-    ensures { result.now ≡ plural count }
-{
-    if count == 1 { "" } else { "s" }
 }

@@ -21,6 +21,7 @@ before_quote warning.LineEnd = codes "systemd "
 before_quote warning.SkippedStarts = codes "systemd 252 may pass over starts of "
 before_quote warning.UnknownKey = codes "unknown setting "
 before_quote warning.BadDelay = []
+before_quote warning.BadBoolean = []
 before_quote warning.Delayed = codes "starts up to "
 before_quote warning.SystemdRejects = codes "systemd 252 rejects "
 before_quote warning.RangeFromEnd = codes "systemd 252 reads "
@@ -33,6 +34,7 @@ unfoldable pub after_quote : Warning → Option (List ℕ)
 after_quote warning.SkippedStarts = Some (codes ": give the step an end")
 after_quote warning.UnknownKey = Some (codes " in [Timer]")
 after_quote warning.BadDelay = Some (codes " is not a time span")
+after_quote warning.BadBoolean = Some (codes " is not a boolean")
 after_quote warning.Delayed = Some (codes " later than planned (RandomizedDelaySec=)")
 after_quote warning.SystemdRejects = Some (codes ": ")
 after_quote warning.RangeFromEnd = Some (codes " otherwise: ")

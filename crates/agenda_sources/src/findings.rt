@@ -132,7 +132,8 @@ fn add_source(
     ensures known { OnOk result (known.new ≡ after_file context.now known.old (source_file source.now)) }
 {
     let (name, bytes) = (source.name.as_str(), source.bytes.as_slice());
-    let more = file_findings(alloc, known, source.kind, name, bytes, context)?;
+    let mut more = file_findings(alloc, known, source.kind, name, bytes, context)?;
+    more.shrink_to_fit();
     add_all(found, place, more)
 }
 

@@ -70,8 +70,12 @@ impl JobCell {
     }
 }
 
-// Returns what a job runs.
-fn runs_of(alloc: Global, job: &Job) -> Result<Text, AllocError>
+/// Returns what a job runs: its user, if it has one, a space, and its command.
+///
+/// # Errors
+///
+/// `AllocError` if an allocation fails.
+pub fn runs_of(alloc: Global, job: &Job) -> Result<Text, AllocError>
     ensures { IfOk result (λ text. text ≡ run_text job.now.user job.now.command) }
 {
     let command = job.command();

@@ -56,8 +56,8 @@ pub fn after_text(
     format!(in alloc; "{count} {what}{s} after {time}, {zone}")
 }
 
-// Returns the ending of the name of so many things.
-fn plural(count: usize) -> &'static str
+/// Returns the ending of the name of so many things.
+pub fn plural(count: usize) -> &'static str
     ensures { result.now ≡ plural count }
 {
     if count == 1 { "" } else { "s" }

@@ -12,12 +12,12 @@ use Rattle.plan_match.specs.declared.event.Calendar.{Calendar}
 use Rattle.plan_match.specs.declared.rule.Rule.TheVariants.{Events}
 use Rattle.plan_rules.specs.declared.crontabs.Kind.{Kind}
 use Rattle.plan_rules.specs.Job.{JobParts}
-use Rattle.plan_rules.specs.TimerDelays.{Setting, delay_seconds}
+use Rattle.plan_rules.specs.TimerOptions.{Setting, delay_seconds}
 use Rattle.plan_rules.specs.TimerEntries.{Draft, lines_draft}
 use Rattle.plan_check.specs.declared.context.TimerContext.{TimerContext}
 use Rattle.plan_check.specs.declared.finding.Finding.{Finding}
 use Rattle.plan_check.specs.declared.finding.Warning.{Warning}
-use Rattle.plan_check.specs.declared.finding.Warning.TheVariants.{NeverStarts, EitherDay, NoEvents, Percent, CarriageReturn, SkippedStarts, UnknownKey, BadDelay, Monotonic, Delayed, LineEnd, MayStop, Merged, RangeFromEnd, SystemdRejects, TimerRejected, UnitIgnored, ZoneSetting, CronDiffers, CronIgnores, NoUser}
+use Rattle.plan_check.specs.declared.finding.Warning.TheVariants.{NeverStarts, EitherDay, NoEvents, Percent, CarriageReturn, SkippedStarts, UnknownKey, BadBoolean, BadDelay, Monotonic, Delayed, LineEnd, MayStop, Merged, RangeFromEnd, SystemdRejects, TimerRejected, UnitIgnored, ZoneSetting, CronDiffers, CronIgnores, NoUser}
 use Rattle.plan_check.specs.declared.finding.FindingKind.TheVariants.{Warned}
 use Rattle.plan_check.specs.CronWarnings.{cron_warnings, end_warnings, fault_warnings, ignored_job, other_job, place_warnings, user_warnings}
 use Rattle.plan_check.specs.Finding.{detailed_if, is_clean, is_warning, found_if, found_with}
@@ -30,7 +30,7 @@ use Rattle.plan_systemd.specs.Merged.{may_merge}
 use Rattle.plan_systemd.specs.Rejection.{rejection_of}
 use Rattle.plan_systemd.specs.Skipped.{may_skip_starts}
 use Rattle.plan_texts.specs.Lines.{lines}
-use Rattle.plan_triggers.specs.TimerFile.{is_bad_unit, line_note}
+use Rattle.plan_triggers.specs.TimerFile.{is_bad_boolean, is_bad_unit, line_note}
 use Rattle.plan_triggers.specs.Triggers.{has_trigger, rejected_whole}
 use Rattle.plan_check.specs.Warnings.{command_warnings, ends_with_return, is_either_day, is_reboot, is_zone_setting, never_starts, rule_warnings, setting_warnings, warnings_by}
 
@@ -122,10 +122,12 @@ setting_clean clock line None = refl
 setting_clean clock line (Some setting) =
     let key = found_if (is_some clock && is_unknown_key setting.0) line (Warned UnknownKey) (Some setting.0) in
     let delay = found_if (is_some clock && is_bad_delay setting) line (Warned BadDelay) (Some setting.1) in
+    let truth = found_if (is_some clock && is_bad_boolean setting) line (Warned BadBoolean) (Some setting.1) in
     let unit = found_if (is_some clock && is_bad_unit setting) line (Warned UnitIgnored) (Some setting.1) in
-    both_clean key (delay ++ unit) (quoting_clean (is_some clock && is_unknown_key setting.0) line UnknownKey (Some setting.0))
-    (both_clean delay unit (quoting_clean (is_some clock && is_bad_delay setting) line BadDelay (Some setting.1))
-    (quoting_clean (is_some clock && is_bad_unit setting) line UnitIgnored (Some setting.1)))
+    both_clean key (delay ++ (truth ++ unit)) (quoting_clean (is_some clock && is_unknown_key setting.0) line UnknownKey (Some setting.0))
+    (both_clean delay (truth ++ unit) (quoting_clean (is_some clock && is_bad_delay setting) line BadDelay (Some setting.1))
+    (both_clean truth unit (quoting_clean (is_some clock && is_bad_boolean setting) line BadBoolean (Some setting.1))
+    (quoting_clean (is_some clock && is_bad_unit setting) line UnitIgnored (Some setting.1))))
 
 differences_clean :
     (line : ℕ) (text : List ℕ) (rejected from_end : Option (List ℕ)) (skips : Bool) (stop : Option (List ℕ)) →
@@ -169,11 +171,11 @@ triggers_clean bad has held triggered monotonic =
 starts_clean :
     (clock : List Change) (name : List ℕ) (read : TimerText) (draft : Draft) → is_clean (start_warnings clock name read draft) ≡ true
 starts_clean clock name read draft =
-    let merges = may_merge (rule_in clock (Events draft.events)) (delay_seconds read.delays) in
-    let delayed = found_if (nat_lt 0 read.delays.random) 0 (Warned Delayed) (Some read.delay) in
+    let merges = may_merge (rule_in clock (Events draft.events)) (delay_seconds read.options) in
+    let delayed = found_if (nat_lt 0 read.options.random) 0 (Warned Delayed) (Some read.delay) in
     let merged = found_if merges 0 (Warned Merged) None in
     let itself = found_if (names_itself name draft.unit) 0 (Warned UnitIgnored) (Some name) in
-    both_clean delayed (merged ++ itself) (quoting_clean (nat_lt 0 read.delays.random) 0 Delayed (Some read.delay))
+    both_clean delayed (merged ++ itself) (quoting_clean (nat_lt 0 read.options.random) 0 Delayed (Some read.delay))
     (both_clean merged itself (quoting_clean merges 0 Merged None)
     (quoting_clean (names_itself name draft.unit) 0 UnitIgnored (Some name)))
 

@@ -35,14 +35,15 @@ use Rattle.plan_rules.specs.Limits.{most_events, most_jobs}
 use Rattle.plan_rules.specs.LineFaults.{LineReading, TextReading, cause_by_cause, fault_on_line, in_line, on_line}
 use Rattle.plan_rules.specs.SourceKind.{is_package_name, is_user_name, name_cause}
 use Rattle.plan_rules.specs.Timer.{Effect, Reset, Event, Starts, Nothing, effects_from, has_timer, is_timer_name, job_with, settings_from, timer_job, timer_setting}
-use Rattle.plan_rules.specs.TimerDelays.{Setting, delay_of}
+use Rattle.plan_rules.specs.TimerOptions.{Setting, delay_seconds, options_of}
+use Rattle.plan_rules.specs.declared.timer_options.TimerOptions.{TimerOptions}
 use Rattle.plan_rules.specs.TimerEntries.{EventCount, effect_in, LineStep, Idle, Empties, Has, Names, TimerState, Draft, entries_from, entry_of, line_by, line_in, lines_draft, no_events, no_lines, state_after, timer_lines, timer_of_lines}
 use Rattle.plan_check.specs.declared.context.TimerContext.{TimerContext}
 use Rattle.plan_check.specs.declared.deciding.FileFault.{FileFault}
 use Rattle.plan_check.specs.declared.deciding.FileFault.TheVariants as fault
 use Rattle.plan_check.specs.declared.finding.Finding.{Finding}
 use Rattle.plan_check.specs.declared.finding.FindingKind.TheVariants.{Rejected, SameName, Full}
-use Rattle.plan_check.specs.Context.{delay_in}
+use Rattle.plan_check.specs.Context.{delay_in, options_in}
 use Rattle.plan_check.specs.CronWarnings.{is_first}
 use Rattle.plan_check.specs.Crontabs.{after_crontab, after_line, after_lines, crontab_findings, field_quote, line_findings, lines_findings}
 use Rattle.plan_check.specs.Deciding.{deciding, early_cause, early_fault, known_jobs, known_with, late_fault, strictly, unless_fault, with_each}
@@ -385,13 +386,15 @@ timer_means (rejected ∷ others) good has jobs n job found few is early none =
 
 -- the job is made at the end, and has its delay then
 made_last :
-    (faults : List LineFault) (has : Bool) (name : List ℕ) (draft : Draft) (first delay : ℕ) →
-    (unless_faulty faults (timer_job name draft.unit draft.events delay) >>= λ job. cond has (Ok job) (on_line 0 (Err NoTimerSection)))
+    (faults : List LineFault) (has : Bool) (name : List ℕ) (draft : Draft) (first options : TimerOptions) →
+    options.persistent ≡ first.persistent →
+    (unless_faulty faults (timer_job name draft.unit draft.events options) >>= λ job. cond has (Ok job) (on_line 0 (Err NoTimerSection)))
     ≡ ((unless_faulty faults draft >>= λ draft. job_with has name draft.unit draft.events first)
-    >>= λ job. Ok (record job { delay = delay }))
-made_last [] true name draft first delay = refl
-made_last [] false name draft first delay = refl
-made_last (rejected ∷ others) has name draft first delay = refl
+    >>= λ job. Ok (record job { delay = delay_seconds options }))
+made_last [] true name draft first options same =
+    ap (λ persistent. Ok (record (timer_job name draft.unit draft.events options) { persistent = persistent })) same
+made_last [] false name draft first options same = refl
+made_last (rejected ∷ others) has name draft first options same = refl
 
 -- a job with the delay that settings give in a context
 abbrev delayed : TimerContext → List (ℕ × List ℕ) → JobParts → JobParts
@@ -407,8 +410,8 @@ lines_of_timer context jobs name bytes lines good =
     timer_means faults (is_timer_name name) (has_timer lines) jobs (0 + length jobs) (right_job context name lines)
     (timers.lines_findings None (no_lines context.zones) lines) (omega arith) good are.0 are.1
     ∙ ap (λ reading. known_with jobs (alone reading))
-    (made_last faults (has_timer lines) name (lines_draft context.zones lines) (delay_of (settings_from false lines))
-    (delay_in context (settings_from false lines)))
+    (made_last faults (has_timer lines) name (lines_draft context.zones lines) (options_of (settings_from false lines))
+    (options_in context (settings_from false lines)) refl)
 
 timer_text_means :
     (large utf8 : Bool) (context : TimerContext) (jobs : List JobParts) (name bytes : List ℕ) (f : List ℕ → List (ℕ × List ℕ)) →

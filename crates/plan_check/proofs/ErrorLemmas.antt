@@ -20,7 +20,7 @@ use Rattle.plan_rules.specs.Job.{JobParts}
 use Rattle.plan_rules.specs.LineFaults.{LineReading, TextReading}
 use Rattle.plan_rules.specs.SourceKind.{name_cause}
 use Rattle.plan_rules.specs.Timer.{has_timer, is_timer_name, timer_setting}
-use Rattle.plan_rules.specs.TimerDelays.{Setting}
+use Rattle.plan_rules.specs.TimerOptions.{Setting}
 use Rattle.plan_rules.specs.TimerEntries.{LineStep, Idle, Empties, Has, Names, TimerState, line_in, no_lines, state_after, timer_lines}
 use Rattle.plan_check.specs.declared.context.TimerContext.{TimerContext}
 use Rattle.plan_check.specs.declared.finding.Finding.{Finding}

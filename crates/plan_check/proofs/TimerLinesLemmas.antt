@@ -2,7 +2,7 @@
 -- lines add to it, is what all lines say (`one_more`, by a lemma `_front` for each part).
 use Rattle.std.proofs.Common.{◌≡◌, ℕ, Bool, true, false, not, ◌&&◌, ◌||◌, if◌then◌else◌, List, [], ◌∷◌, ◌++◌, append-nil, append_assoc, filter, map, Option, Some, None, refl, ap, sym, ◌∙◌}
 use Rattle.std.specs.List.{cons_option, list_any}
-use Rattle.plan_rules.specs.TimerDelays.{Setting, last_or}
+use Rattle.plan_rules.specs.TimerOptions.{Setting, last_or}
 use Rattle.plan_rules.specs.TimerEntries.{TimerState, state_after}
 use Rattle.plan_check.specs.Settings.{delay_after, is_delay, stands, stands_after}
 

@@ -4,7 +4,7 @@ use Rattle.std.specs.List.{list_any}
 use Rattle.std.specs.Str.{bytes_eq}
 use Rattle.plan_spans.specs.Spans.{time_span}
 use Rattle.plan_rules.specs.Timer.{is_reset, monotonic_keys}
-use Rattle.plan_rules.specs.TimerDelays.{Setting, accuracy_key, delays_after, last_or, last_span, random_key, span_of}
+use Rattle.plan_rules.specs.TimerOptions.{Setting, accuracy_key, options_after, last_or, last_span, random_key, span_of}
 use Rattle.plan_check.specs.declared.settings.Standing.{Standing}
 
 -- ---- one setting
@@ -74,5 +74,5 @@ stands_after test revokes before (Some setting) = test setting || (before && not
 abbrev pub standing_after : Standing → Option Setting → Standing
 standing_after standing setting = record {
   monotonic = stands_after is_span is_reset standing.monotonic setting;
-  delays = delays_after standing.delays setting;
+  options = options_after standing.options setting;
 }

@@ -6,9 +6,9 @@ use Rattle.plan_clock.specs.declared.row.Change.{Change}
 use Rattle.plan_match.specs.Zone.{rule_in}
 use Rattle.plan_match.specs.declared.rule.Rule.TheVariants.{Events}
 use Rattle.plan_rules.specs.Timer.{has_timer, settings_from}
-use Rattle.plan_rules.specs.TimerDelays.{Setting, delay_seconds, delays_with}
+use Rattle.plan_rules.specs.TimerOptions.{Setting, delay_seconds, options_with}
 use Rattle.plan_rules.specs.TimerEntries.{Draft, held_after, lines_draft}
-use Rattle.plan_rules.specs.declared.timer_delays.TimerDelays.{TimerDelays}
+use Rattle.plan_rules.specs.declared.timer_options.TimerOptions.{TimerOptions}
 use Rattle.plan_systemd.specs.Merged.{may_merge}
 use Rattle.plan_texts.specs.Lines.{lines}
 use Rattle.plan_triggers.specs.TimerFile.{has_bad_header, line_note}
@@ -17,7 +17,7 @@ use Rattle.plan_check.specs.declared.context.TimerContext.{TimerContext}
 use Rattle.plan_check.specs.declared.finding.Finding.{Finding}
 use Rattle.plan_check.specs.declared.finding.Warning.TheVariants.{NoEvents, Monotonic, Delayed, Merged, TimerRejected, UnitIgnored, LineEnd}
 use Rattle.plan_check.specs.declared.finding.FindingKind.TheVariants.{Warned}
-use Rattle.plan_check.specs.Context.{delays_by}
+use Rattle.plan_check.specs.Context.{options_by}
 use Rattle.plan_check.specs.Finding.{found_if, found_with}
 use Rattle.plan_check.specs.Settings.{is_monotonic, last_delay}
 
@@ -50,13 +50,13 @@ names_itself name unit = option_map_or (bytes_eq name) unit false
 -- ---- a timer
 
 -- what the lines of a timer say: whether a section has a bad header, whether there is a `[Timer]` section, how many events are in the
--- list, whether the timer elapses by monotonic settings, its time spans, the last random delay as it is written, and its settings
+-- list, whether the timer elapses by monotonic settings, its options, the last random delay as it is written, and its settings
 pub record TimerText : Type 0 where
   pub bad_header : Bool
   pub has_section : Bool
   pub held : ℕ
   pub monotonic : Bool
-  pub delays : TimerDelays
+  pub options : TimerOptions
   pub delay : List ℕ
   pub settings : List Setting
 
@@ -66,7 +66,7 @@ timer_text accuracy whole = record {
   has_section = has_timer whole;
   held = held_after whole;
   monotonic = is_monotonic (settings_from false whole);
-  delays = delays_with (delays_by accuracy) (settings_from false whole);
+  options = options_with (options_by accuracy) (settings_from false whole);
   delay = last_delay (settings_from false whole);
   settings = settings_from false whole;
 }
@@ -74,8 +74,8 @@ timer_text accuracy whole = record {
 -- the warnings on when the timer starts, by the clock of a zone
 abbrev pub start_warnings : List Change → (name : List ℕ) → TimerText → Draft → List Finding
 start_warnings clock name read draft =
-    found_if (nat_lt 0 read.delays.random) 0 (Warned Delayed) (Some read.delay)
-    ++ (found_if (may_merge (rule_in clock (Events draft.events)) (delay_seconds read.delays)) 0 (Warned Merged) None
+    found_if (nat_lt 0 read.options.random) 0 (Warned Delayed) (Some read.delay)
+    ++ (found_if (may_merge (rule_in clock (Events draft.events)) (delay_seconds read.options)) 0 (Warned Merged) None
     ++ found_if (names_itself name draft.unit) 0 (Warned UnitIgnored) (Some name))
 
 -- the warnings on the whole timer, in this order, and on lines that systemd reads otherwise

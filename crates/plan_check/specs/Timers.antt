@@ -9,18 +9,18 @@ use Rattle.plan_rules.specs.declared.line_fault.LineCause.TheVariants.{NoTimerSe
 use Rattle.plan_rules.specs.Job.{JobParts}
 use Rattle.plan_rules.specs.LineFaults.{LineReading, TextReading}
 use Rattle.plan_rules.specs.Timer.{has_timer, is_timer_name, settings_from, timer_job, timer_setting}
-use Rattle.plan_rules.specs.TimerDelays.{Setting}
+use Rattle.plan_rules.specs.TimerOptions.{Setting}
 use Rattle.plan_rules.specs.TimerEntries.{LineStep, Idle, Empties, Has, Names, TimerState, held_after, line_in, lines_draft, no_lines, state_after}
 use Rattle.plan_check.specs.declared.context.TimerContext.{TimerContext}
 use Rattle.plan_check.specs.declared.finding.Finding.{Finding}
-use Rattle.plan_check.specs.declared.finding.Warning.TheVariants.{NeverStarts, SkippedStarts, UnknownKey, BadDelay, MayStop, RangeFromEnd, SystemdRejects, UnitIgnored}
+use Rattle.plan_check.specs.declared.finding.Warning.TheVariants.{NeverStarts, SkippedStarts, UnknownKey, BadBoolean, BadDelay, MayStop, RangeFromEnd, SystemdRejects, UnitIgnored}
 use Rattle.plan_check.specs.declared.finding.FindingKind.TheVariants.{Rejected, Warned}
-use Rattle.plan_check.specs.Context.{delay_in}
+use Rattle.plan_check.specs.Context.{options_in}
 use Rattle.plan_check.specs.Finding.{error_at, found_if, found_with, rejected_at}
 use Rattle.plan_check.specs.Known.{KnownJobs, after_job, after_other, job_findings}
 use Rattle.plan_check.specs.Settings.{is_bad_delay, is_monotonic, is_unknown_key, value_of}
 use Rattle.plan_check.specs.TimerWarnings.{timer_warnings}
-use Rattle.plan_triggers.specs.TimerFile.{is_bad_unit}
+use Rattle.plan_triggers.specs.TimerFile.{is_bad_boolean, is_bad_unit}
 use Rattle.plan_systemd.specs.EventHint.{event_hint}
 use Rattle.plan_systemd.specs.FromEnd.{from_end_of}
 use Rattle.plan_systemd.specs.MayStop.{may_stop}
@@ -79,7 +79,8 @@ setting_findings clock line None = []
 setting_findings clock line (Some setting) =
     found_if (is_some clock && is_unknown_key setting.0) line (Warned UnknownKey) (Some setting.0)
     ++ (found_if (is_some clock && is_bad_delay setting) line (Warned BadDelay) (Some setting.1)
-    ++ found_if (is_some clock && is_bad_unit setting) line (Warned UnitIgnored) (Some setting.1))
+    ++ (found_if (is_some clock && is_bad_boolean setting) line (Warned BadBoolean) (Some setting.1)
+    ++ found_if (is_some clock && is_bad_unit setting) line (Warned UnitIgnored) (Some setting.1)))
 
 -- the findings of a line, in the state before it
 abbrev pub line_findings : Option (List Change) → TimerState → ℕ × List ℕ → List Finding
@@ -115,7 +116,7 @@ timer_findings context known name bytes (Err fault) = rejected_at fault.line fau
 abbrev pub right_job : TimerContext → List ℕ → List (ℕ × List ℕ) → JobParts
 right_job context name lines =
     timer_job name (lines_draft context.zones lines).unit (lines_draft context.zones lines).events
-    (delay_in context (settings_from false lines))
+    (options_in context (settings_from false lines))
 
 -- what is known after a timer: its job is kept if nothing of the whole file is rejected
 abbrev pub after_timer : TimerContext → KnownJobs → List ℕ → TextReading (List (ℕ × List ℕ)) → KnownJobs

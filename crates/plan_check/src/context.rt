@@ -3,7 +3,7 @@
 ghost use Rattle.std.specs.Prelude.{◌≡◌};
 ghost use Rattle.plan_check.specs.Context.{context_of};
 
-use plan_rules::{EventZones, TimerDelays};
+use plan_rules::{EventZones, TimerOptions};
 
 /// What a machine says of all its timers.
 #[derive(Debug, Drop)]
@@ -22,7 +22,7 @@ impl TimerContext {
     {
         TimerContext {
             zones,
-            accuracy: TimerDelays::new().accuracy,
+            accuracy: TimerOptions::new().accuracy,
         }
     }
 }

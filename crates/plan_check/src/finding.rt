@@ -27,6 +27,8 @@ pub enum Warning {
     UnknownKey,
     /// The value of `RandomizedDelaySec=` or `AccuracySec=` isn't a time span (systemd.time(7)), so it is ignored.
     BadDelay,
+    /// The value of `Persistent=` isn't a boolean, so it is ignored (systemd.timer(5)).
+    BadBoolean,
     /// The timer also starts by `OnBootSec=` or the like, which isn't planned (systemd.timer(5)).
     Monotonic,
     /// The timer starts later than planned, by up to the value of `RandomizedDelaySec=` (systemd.timer(5)).
@@ -72,8 +74,8 @@ pub enum FindingKind {
 ///
 /// - An error of a crontab's rule quotes the field that it is about, or the first word if it is about no field.
 /// - An error of an event, `SkippedStarts`, `SystemdRejects`, `RangeFromEnd` and `MayStop` quote the value of `OnCalendar=`.
-/// - `SameName` quotes the name of the job, `UnknownKey` the key, `BadDelay` the value, and `Delayed` the last value of
-///   `RandomizedDelaySec=` that is a time span. `NoUser` quotes the user, and `UnitIgnored` the value.
+/// - `SameName` quotes the name of the job, `UnknownKey` the key, `BadDelay` and `BadBoolean` the value, and `Delayed` the last
+///   value of `RandomizedDelaySec=` that is a time span. `NoUser` quotes the user, and `UnitIgnored` the value.
 /// - The other findings quote nothing.
 #[derive(Debug, Drop)]
 pub struct Finding {
@@ -102,6 +104,7 @@ impl Warning {
             Warning::SkippedStarts => "SkippedStarts",
             Warning::UnknownKey => "UnknownKey",
             Warning::BadDelay => "BadDelay",
+            Warning::BadBoolean => "BadBoolean",
             Warning::Monotonic => "Monotonic",
             Warning::Delayed => "Delayed",
             Warning::SystemdRejects => "SystemdRejects",

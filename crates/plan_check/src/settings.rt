@@ -2,10 +2,10 @@
 
 ghost use Rattle.std.specs.Prelude.{◌≡◌, false, option_map};
 ghost use Rattle.plan_rules.specs.Timer.{is_reset};
-ghost use Rattle.plan_check.specs.Context.{delays_by};
+ghost use Rattle.plan_check.specs.Context.{options_by};
 ghost use Rattle.plan_check.specs.Settings.{delay_after, is_bad_delay, is_delay, is_span, is_unknown_key, standing_after, stands_after, value_of};
 
-use plan_rules::{TimerDelays, is_monotonic_key, is_reset};
+use plan_rules::{TimerOptions, is_monotonic_key, is_reset};
 use plan_spans::time_span;
 
 // What the settings so far say of the whole timer.
@@ -13,20 +13,20 @@ use plan_spans::time_span;
 pub(crate) struct Standing {
     // Whether a monotonic setting with a value comes after the last setting that empties the list.
     pub(crate) monotonic: bool,
-    // The time spans of the delay.
-    pub(crate) delays: TimerDelays,
+    // The options of the timer.
+    pub(crate) options: TimerOptions,
 }
 
 impl Standing {
     // Returns what stands before the first setting, with the accuracy of timers that set none.
     pub(crate) fn new(accuracy: u64) -> Standing
-        ensures { result ≡ record { monotonic = false; delays = delays_by accuracy } }
+        ensures { result ≡ record { monotonic = false; options = options_by accuracy } }
     {
         Standing {
             monotonic: false,
-            delays: TimerDelays {
+            options: TimerOptions {
                 accuracy,
-                ..TimerDelays::new()
+                ..TimerOptions::new()
             },
         }
     }
@@ -37,7 +37,7 @@ impl Standing {
     {
         Standing {
             monotonic: is_monotonic_after(self.monotonic, setting),
-            delays: self.delays.after(setting),
+            options: self.options.after(setting),
         }
     }
 }

@@ -46,7 +46,7 @@ impl<'z, 'l> Model for TimerText<'z, 'l> {
       has_section = read.reader.found;
       held = read.reader.count.held;
       monotonic = read.standing.monotonic;
-      delays = read.standing.delays;
+      options = read.standing.options;
       delay = read.delay.now;
       settings = read.settings.items;
     } };
@@ -108,10 +108,10 @@ fn add_start_warnings(
 ) -> Result<(), AllocError>
     ensures { OnOk result (found.new.items ≡ found.old.items ++ start_warnings clock.now name.now read.now (draft_of draft.now)) }
 {
-    let delays = read.standing.delays;
-    let merges = may_merge(alloc, clock, &draft.events, delays.seconds())?;
+    let options = read.standing.options;
+    let merges = may_merge(alloc, clock, &draft.events, options.seconds())?;
     let delayed = FindingKind::Warned(Warning::Delayed);
-    add_quoting_if(alloc, found, delays.random > 0, 0, delayed, read.delay)?;
+    add_quoting_if(alloc, found, options.random > 0, 0, delayed, read.delay)?;
     let merged = FindingKind::Warned(Warning::Merged);
     add_if(found, merges, 0, merged)?;
     let ignored = FindingKind::Warned(Warning::UnitIgnored);

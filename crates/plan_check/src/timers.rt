@@ -24,13 +24,13 @@ use crate::timer_warnings::{TimerText, add_timer_warnings};
 use plan_clock::Clock;
 use plan_next::next_from;
 use plan_rules::{
-    Calendar, EventZones, Events, LineCause, LineFault, Rule, TimerDraft, TimerLine, TimerReader,
-    is_timer_name, text_of, timer_job,
+    Calendar, EventZones, Events, LineCause, LineFault, Rule, TimerDraft, TimerLine, TimerOptions,
+    TimerReader, is_timer_name, text_of, timer_job,
 };
 use plan_systemd::{EventDifferences, event_differences, event_hint};
 use plan_texts::Text;
 use plan_texts::whole_lines::{WholeLine, whole_lines};
-use plan_triggers::{TimerSetting, has_bad_header, is_bad_unit};
+use plan_triggers::{TimerSetting, has_bad_header, is_bad_boolean, is_bad_unit};
 use std::alloc::{AllocError, Global};
 
 // Adds the findings of a timer's text, and its job, in this context.
@@ -118,13 +118,13 @@ fn add_lines(
         &read,
         &draft,
     )?;
-    let delay = read.standing.delays.seconds();
-    add_timer_job(alloc, known, found, name, has_section, draft, delay)?;
+    let options = read.standing.options;
+    add_timer_job(alloc, known, found, name, has_section, draft, options)?;
     add_all(found, warnings)?;
     add_all(found, later)
 }
 
-// Adds the job of a timer, whose delay is in seconds, unless the whole timer is rejected. Adds what is wrong with its name.
+// Adds the job of a timer with these options, unless the whole timer is rejected. Adds what is wrong with its name.
 fn add_timer_job(
     alloc: Global,
     known: &mut Known,
@@ -132,14 +132,14 @@ fn add_timer_job(
     name: &str,
     has_section: bool,
     draft: TimerDraft,
-    delay: u64,
+    options: TimerOptions,
 ) -> Result<(), AllocError>
     ensures found { OnOk result (found.new.items ≡ found.old.items ++ job_findings known.old 0 name.now) }
     ensures known { OnOk result (known.new ≡ (if is_timer_name name.now && has_section
-        then after_job known.old (timer_job name.now (draft_of draft).unit draft.events delay) else after_other known.old name.now)) }
+        then after_job known.old (timer_job name.now (draft_of draft).unit draft.events options) else after_other known.old name.now)) }
 {
     if is_timer_name(name.as_bytes()) && has_section {
-        let job = timer_job(alloc, name, draft.unit, draft.events, delay)?;
+        let job = timer_job(alloc, name, draft.unit, draft.events, options)?;
         return add_job(known, found, 0, job);
     }
     add_name_fault(alloc, known, found, 0, name)?;
@@ -260,6 +260,9 @@ fn add_setting(
             add_quoting_if(alloc, found, is_unknown, line, unknown, key)?;
             let is_bad = clock.is_some() && is_bad_delay(key, value);
             let bad = FindingKind::Warned(Warning::BadDelay);
+            add_quoting_if(alloc, found, is_bad, line, bad, value)?;
+            let is_bad = clock.is_some() && is_bad_boolean(key, value);
+            let bad = FindingKind::Warned(Warning::BadBoolean);
             add_quoting_if(alloc, found, is_bad, line, bad, value)?;
             let is_ignored = clock.is_some() && is_bad_unit(key, value);
             let ignored = FindingKind::Warned(Warning::UnitIgnored);

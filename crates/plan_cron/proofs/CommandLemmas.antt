@@ -13,7 +13,9 @@ use Rattle.plan_cron.specs.Commands.{after_rule, cut_command, is_too_long}
 use Rattle.plan_cron.specs.Lines.{before_nul, is_nul, most_kept}
 use Rattle.plan_cron.specs.Words.{after_word, after_words}
 
-shorter_rest : (b : Bool) (n : ℕ) (text : List ℕ) → length (option_map_or (λ (cut : List ℕ × List ℕ). cut.1) (cond b None (Some (take n text, drop n text))) []) ≤ length text
+shorter_rest :
+    (b : Bool) (n : ℕ) (text : List ℕ) →
+    length (option_map_or (λ (cut : List ℕ × List ℕ). cut.1) (cond b None (Some (take n text, drop n text))) []) ≤ length text
 shorter_rest true n text = omega arith
 shorter_rest false n text = omega (arith, length-drop n text)
 

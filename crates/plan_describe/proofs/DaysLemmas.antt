@@ -121,7 +121,8 @@ week_round_has start end run w w_below fine is =
         ap (λ x. week_has (WeekRun (weekday_of x) (weekday_of run.last)) w) (sym first_is)
         ∙ ap (λ x. week_has (WeekRun (weekday_of end.first) (weekday_of x)) w) (sym last_is)
         ∙ week_has_is end.first start.last w fine.2.0 fine.1
-        ∙ round start.first end.first start.last end.last w (equal_test start.first 0 a.0) (equal_test end.last 6 b.0) (lt_test start.last end.first c.0) fine.2.0 w_below
+        ∙ round start.first end.first start.last end.last w (equal_test start.first 0 a.0) (equal_test end.last 6 b.0)
+        (lt_test start.last end.first c.0) fine.2.0 w_below
     go false tests is = absurd (cc)
 
 week_run_has :
@@ -152,7 +153,8 @@ week_said_has ws w w_below below = go (week_run (runs ws)) refl
 
 -- ---- dates
 
-any_reversed : (test : Span → Bool) (xs ys : List Span) → list_any test (map turned_span (reverse_aux xs ys)) ≡ (list_any (λ x. test (turned_span x)) xs || list_any (λ x. test (turned_span x)) ys)
+any_reversed : (test : Span → Bool) (xs ys : List Span) → list_any test (map turned_span (reverse_aux xs ys))
+    ≡ (list_any (λ x. test (turned_span x)) xs || list_any (λ x. test (turned_span x)) ys)
 any_reversed test [] ys = any_map ys
   where
     any_map : (xs : List Span) → list_any test (map turned_span xs) ≡ list_any (λ x. test (turned_span x)) xs
@@ -300,7 +302,8 @@ both_said_has from_end days weekdays d p w place below = go (is_whole 1 31 days)
     go true false whole all =
         week_said_has weekdays w place.weekday below ∙ ap (λ x. x && has_number weekdays w) (sym (all_days from_end days d p w place whole))
     go false true whole all =
-        dates_said_has from_end days d p place.place_from ∙ with_true (has_number days (if from_end then p else d)) (has_number weekdays w) (all_weekdays weekdays d p w place all)
+        dates_said_has from_end days d p place.place_from
+        ∙ with_true (has_number days (if from_end then p else d)) (has_number weekdays w) (all_weekdays weekdays d p w place all)
       where
         with_true : (a b : Bool) → b ≡ true → a ≡ (a && b)
         with_true true b is = sym is
@@ -324,7 +327,8 @@ either_said_has from_end days weekdays d p w place below = go (is_whole 1 31 day
         days_have (if b then AnyDay else OnEither (dates_said from_end days) (week_said weekdays)) d p w
         ≡ (has_number days (if from_end then p else d) || has_number weekdays w)
     go true some =
-        elim (or_cases (is_whole 1 31 days) (is_whole 0 6 weekdays) some) as (λ _. true ≡ (has_number days (if from_end then p else d) || has_number weekdays w)) [
+        elim (or_cases (is_whole 1 31 days) (is_whole 0 6 weekdays) some) as (λ _. true
+        ≡ (has_number days (if from_end then p else d) || has_number weekdays w)) [
           | inl whole ↦ one_true (has_number days (if from_end then p else d)) (has_number weekdays w) (all_days from_end days d p w place whole)
           | inr whole ↦ other_true (has_number days (if from_end then p else d)) (has_number weekdays w) (all_weekdays weekdays d p w place whole)
         ]

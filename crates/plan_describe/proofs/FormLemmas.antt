@@ -119,7 +119,8 @@ windows_some_with :
 windows_some_with d hour more known ws None next is = absurd (cc)
 windows_some_with d hour more known ws (Some w) next is = next w is
 
-windows_some_after : (d : ℕ) (hour : Series) (rs : List Span) (known ws : List Window) → IsNonEmpty known → windows_after known d hour rs ≡ Some ws → IsNonEmpty ws
+windows_some_after : (d : ℕ) (hour : Series) (rs : List Span) (known ws : List Window) → IsNonEmpty known →
+    windows_after known d hour rs ≡ Some ws → IsNonEmpty ws
 windows_some_after d hour [] known ws some is =
     let P : List Window → Type 0 = λ x. IsNonEmpty x in let same : known ≡ ws = cc in subst P same some
 windows_some_after d hour (run ∷ more) known ws some is =
@@ -319,7 +320,8 @@ months_form (v ∷ vs) some = by_whole (is_whole 1 12 (v ∷ vs))
     by_whole false = by_run (is_run (v ∷ vs))
 
 -- the last year that the steps reach
-last_reached : (first last step : ℕ) → first ≤ last → last ≤ last_year → (last - first) % step ≡ 0 → last_year < last + step → last ≡ last_year - (last_year - first) % step
+last_reached : (first last step : ℕ) → first ≤ last → last ≤ last_year → (last - first) % step ≡ 0 → last_year < last + step →
+    last ≡ last_year - (last_year - first) % step
 last_reached first last step order within reaches over =
     let gap : last_year - first ≡ last - first + (last_year - last) = omega arith in
     let rest : (last_year - first) % step ≡ last_year - last =

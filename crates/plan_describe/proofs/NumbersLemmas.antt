@@ -124,13 +124,15 @@ last_after step v (w ∷ ws) is =
 below : (u v w last m n : ℕ) → u < v → v ≤ w → (nat_le v u && (nat_le u last && (m == 0))) ≡ ((v == u) || (nat_le w u && (nat_le u last && (n == 0))))
 below u v w last m n less next = grind (arith, nat_tests)
 
-at_first : (u v w last m n : ℕ) → u ≡ v → v ≤ last → m ≡ 0 → (nat_le v u && (nat_le u last && (m == 0))) ≡ ((v == u) || (nat_le w u && (nat_le u last && (n == 0))))
+at_first : (u v w last m n : ℕ) → u ≡ v → v ≤ last → m ≡ 0 → (nat_le v u && (nat_le u last && (m == 0)))
+    ≡ ((v == u) || (nat_le w u && (nat_le u last && (n == 0))))
 at_first u v w last m n same fits none = grind (arith, nat_tests)
 
 between : (u v w last m n : ℕ) → v < u → u < w → 0 < m → (nat_le v u && (nat_le u last && (m == 0))) ≡ ((v == u) || (nat_le w u && (nat_le u last && (n == 0))))
 between u v w last m n less next some = grind (arith, nat_tests)
 
-from_next : (u v w last m n : ℕ) → v < w → w ≤ u → m ≡ n → (nat_le v u && (nat_le u last && (m == 0))) ≡ ((v == u) || (nat_le w u && (nat_le u last && (n == 0))))
+from_next : (u v w last m n : ℕ) → v < w → w ≤ u → m ≡ n → (nat_le v u && (nat_le u last && (m == 0)))
+    ≡ ((v == u) || (nat_le w u && (nat_le u last && (n == 0))))
 from_next u v w last m n less next same = grind (arith, nat_tests)
 
 step_more :

@@ -34,7 +34,8 @@ place_of civil is =
     record { day_from = low; day_to = omega arith; place_from = omega arith; place_to = omega arith; weekday = is.weekday }
 
 -- the months of a set
-months_part : (values : SetOfValues) (civil : Civil) → IsInYears civil → months_have (months_said (set_members values 1 12)) civil.month ≡ has_value values civil.month
+months_part : (values : SetOfValues) (civil : Civil) → IsInYears civil →
+    months_have (months_said (set_members values 1 12)) civil.month ≡ has_value values civil.month
 months_part values civil is =
     let low = is.month.0 in
     let high = is.month.1 in
@@ -118,7 +119,8 @@ cron_means rule civil is =
     let month = months_part rule.months civil is in
     let days = cron_days rule civil is in
     (λ i. (month i && days i) && time i) ∙ (λ i. (has_value rule.months civil.month && days_admit rule civil) && (second i && (minute i && hour i)))
-    ∙ moved (has_value rule.months civil.month && days_admit rule civil) (civil.second == 0) (has_value rule.minutes civil.minute) (has_value rule.hours civil.hour)
+    ∙ moved (has_value rule.months civil.month && days_admit rule civil) (civil.second == 0) (has_value rule.minutes civil.minute)
+    (has_value rule.hours civil.hour)
 
 -- ---- calendar events
 

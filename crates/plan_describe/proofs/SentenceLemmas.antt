@@ -61,13 +61,15 @@ starts_alike x y g h a b n rows heeds same = λ i. starts_in (rows i) (heeds i) 
 cron_starts_alike : (a b : CronRule) → SameCron a b → a.clock ≡ b.clock → a.is_wildcard ≡ b.is_wildcard → (n : ℕ) → cron_starts a n ≡ cron_starts b n
 cron_starts_alike a b same clock wild n =
     let rows : row_at a.clock n ≡ row_at b.clock n = ap (λ (changes : List Change). row_at changes n) clock in
-    starts_alike (row_at a.clock n) (row_at b.clock n) (cron_heeds a (row_at a.clock n)) (cron_heeds b (row_at b.clock n)) (cron_matches a) (cron_matches b) n rows
+    starts_alike (row_at a.clock n) (row_at b.clock n) (cron_heeds a (row_at a.clock n)) (cron_heeds b (row_at b.clock n))
+    (cron_matches a) (cron_matches b) n rows
     (ap (λ (row : Row). cron_heeds a row) rows ∙ heeds_alike a b (row_at b.clock n) wild) same
 
 event_starts_alike : (a b : Calendar) → SameEvent a b → a.clock ≡ b.clock → (n : ℕ) → event_starts a n ≡ event_starts b n
 event_starts_alike a b same clock n =
     let rows : row_at a.clock n ≡ row_at b.clock n = ap (λ (changes : List Change). row_at changes n) clock in
-    starts_alike (row_at a.clock n) (row_at b.clock n) (event_heeds (row_at a.clock n)) (event_heeds (row_at b.clock n)) (event_matches a) (event_matches b) n rows
+    starts_alike (row_at a.clock n) (row_at b.clock n) (event_heeds (row_at a.clock n)) (event_heeds (row_at b.clock n))
+    (event_matches a) (event_matches b) n rows
     (ap (λ (row : Row). event_heeds row) rows) same
 
 pub cron_sentences : Differ → CronSentences
@@ -79,7 +81,8 @@ cron_sentences differ a b a_full b_full same =
 
 pub event_sentences : Differ → EventSentences
 event_sentences differ a b a_zone b_zone a_full b_full a_is b_is same =
-    let trees = differ (Scheduled (event_said a a_zone)) (Scheduled (event_said b b_zone)) (event_form a a_zone a_full a_is) (event_form b b_zone b_full b_is) same in
+    let trees = differ (Scheduled (event_said a a_zone)) (Scheduled (event_said b b_zone)) (event_form a a_zone a_full a_is)
+    (event_form b b_zone b_full b_is) same in
     let alike : SameEvent a b = λ civil is.
     sym (event_means a a_zone civil is) ∙ ap (λ (d : Description). description_matches d civil) trees ∙ event_means b b_zone civil is in
     (alike, event_starts_alike a b alike)

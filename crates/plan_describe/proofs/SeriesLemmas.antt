@@ -246,12 +246,14 @@ one_even unit a first last step o i first_below last_below i_below =
         ∙ shifted x y a o first last i ((i - first) % step == 0) same equal
 
 -- numbers that differ from the first by no multiple of the unit
-not_aligned : (unit x y b i step : ℕ) → x % unit ≡ 0 → y % unit ≡ 0 → b < unit → i < unit → (b ≡ i → ⊥) → x + b ≤ y + i → (y + i - (x + b)) % (unit * step) ≡ 0 → ⊥
+not_aligned : (unit x y b i step : ℕ) → x % unit ≡ 0 → y % unit ≡ 0 → b < unit → i < unit → (b ≡ i → ⊥) → x + b ≤ y + i →
+    (y + i - (x + b)) % (unit * step) ≡ 0 → ⊥
 not_aligned unit x y b i step x_whole y_whole b_below i_below differ fits is =
     let none : (y + i - (x + b)) % unit ≡ 0 =
     mod-eq-zero_of_dvd unit (dvd_trans unit (dvd-mul_right unit step) (dvd_of_mod-eq-zero (unit * step) is)) in
     let sum : y + i ≡ y + i - (x + b) + (x + b) = omega arith in
-    let left : (y + i) % unit ≡ b = ap (λ z. z % unit) sum ∙ add_multiple (y + i - (x + b)) (x + b) unit none ∙ add_multiple x b unit x_whole ∙ mod-eq_of_lt b_below in
+    let left : (y + i) % unit ≡ b = ap (λ z. z % unit) sum ∙ add_multiple (y + i - (x + b)) (x + b) unit none
+    ∙ add_multiple x b unit x_whole ∙ mod-eq_of_lt b_below in
     let right : (y + i) % unit ≡ i = add_multiple y i unit y_whole ∙ mod-eq_of_lt i_below in
     differ (sym left ∙ right)
 
@@ -266,7 +268,8 @@ even_one unit first last step b o i moves b_below i_below =
           ∙ shifted (unit * first) (unit * last) (unit * o) b i ((unit * o - unit * first) % (unit * step) == 0) same
           ∙ ap (λ z. z && (b == i)) (steps_scaled unit first last step o (omega arith) moves)
       | inr differ ↦
-          elim (cases_lt (unit * o + i) (unit * first + b)) as (λ _. steps_have (unit * first + b) (unit * last + b) (unit * step) (unit * o + i) ≡ (steps_have first last step o && (b == i))) [
+          elim (cases_lt (unit * o + i) (unit * first + b)) as (λ _. steps_have (unit * first + b) (unit * last + b) (unit * step)
+          (unit * o + i) ≡ (steps_have first last step o && (b == i))) [
             | inl before ↦
                 before_all (unit * first + b) (unit * last + b) (unit * o + i) (unit * step) (steps_have first last step o && (b == i)) before
                 (and_right (steps_have first last step o) (b == i) (ne_eqb b i differ))
@@ -330,13 +333,15 @@ even_even :
     (unit first last g h step o i : ℕ) → IsEven g h step → h < unit → g + unit ≡ h + step → i < unit →
     steps_have (unit * first + g) (unit * last + h) step (unit * o + i) ≡ (steps_have first last 1 o && steps_have g h step i)
 even_even unit first last g h step o i fine below round i_below =
-    elim (cases_lt o first) as (λ _. steps_have (unit * first + g) (unit * last + h) step (unit * o + i) ≡ (steps_have first last 1 o && steps_have g h step i)) [
+    elim (cases_lt o first) as (λ _. steps_have (unit * first + g) (unit * last + h) step (unit * o + i)
+    ≡ (steps_have first last 1 o && steps_have g h step i)) [
       | inl less ↦
           let far = units_before unit o first less in
           before_all (unit * first + g) (unit * last + h) (unit * o + i) step (steps_have first last 1 o && steps_have g h step i) (omega arith)
           (and_left (steps_have first last 1 o) (steps_have g h step i) (before_all first last o 1 false less refl))
       | inr from ↦
-          elim (cases_lt last o) as (λ _. steps_have (unit * first + g) (unit * last + h) step (unit * o + i) ≡ (steps_have first last 1 o && steps_have g h step i)) [
+          elim (cases_lt last o) as (λ _. steps_have (unit * first + g) (unit * last + h) step (unit * o + i)
+          ≡ (steps_have first last 1 o && steps_have g h step i)) [
             | inl more ↦
                 let far = units_before unit last o more in
                 after_all (unit * first + g) (unit * last + h) (unit * o + i) step (steps_have first last 1 o && steps_have g h step i) (omega arith)
@@ -393,7 +398,8 @@ sums_of_has unit (Even first last step) (Even g h inner_step) o i outer_fine inn
           | inr less ↦
               elim (cases_lt 0 step) as (λ _. step ≡ 1) [
                 | inl fits ↦ omega arith
-                | inr none ↦ let zero_step : step ≡ 0 = omega arith in let nothing : unit * step ≡ 0 = ap (λ x. unit * x) zero_step ∙ mul-zero unit in absurd (omega arith)
+                | inr none ↦ let zero_step : step ≡ 0 = omega arith in
+                    let nothing : unit * step ≡ 0 = ap (λ x. unit * x) zero_step ∙ mul-zero unit in absurd (omega arith)
               ]
         ]
 
@@ -405,7 +411,8 @@ sums_of_has unit (Even first last step) (Even g h inner_step) o i outer_fine inn
     go true tests is =
         let parts = and_parts (unit * step == unit) (g + unit == h + inner_step) tests in
         let same = one_unit unit step (omega arith) (equal_test (unit * step) unit parts.0) in
-        even_even unit first last g h inner_step o i inner_fine (below_parts unit g h inner_step below).1 (equal_test (g + unit) (h + inner_step) parts.1) i_below
+        even_even unit first last g h inner_step o i inner_fine (below_parts unit g h inner_step below).1
+        (equal_test (g + unit) (h + inner_step) parts.1) i_below
         ∙ ap (λ s. steps_have first last s o && steps_have g h inner_step i) (sym same)
     go false tests is = absurd (cc)
 sums_of_has unit (Even first last step) Uneven o i outer_fine inner_fine below i_below is = absurd (cc)
@@ -476,7 +483,8 @@ sums_fine unit outer inner some outer_fine inner_fine = go (is_below day (scaled
     go false tests = tt
 
 -- the parts of sums are series
-pub parts_are_series : (unit : ℕ) (outer inner : Series) → is_series (sums (scaled unit outer) unit inner) ≡ true → (is_series outer ≡ true) × (is_series inner ≡ true)
+pub parts_are_series : (unit : ℕ) (outer inner : Series) → is_series (sums (scaled unit outer) unit inner) ≡ true →
+    (is_series outer ≡ true) × (is_series inner ≡ true)
 parts_are_series unit outer inner is = go (is_below day (scaled unit outer) && is_below unit inner) refl is
   where
     known : (limit : ℕ) (s : Series) → is_below limit s ≡ true → is_series s ≡ true

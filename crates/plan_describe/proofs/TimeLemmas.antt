@@ -21,7 +21,8 @@ use Rattle.plan_describe.proofs.SeriesLemmas.{IsSeries, parts_are_series, scaled
 -- the times of an hour
 in_hour_fine : (seconds minutes : List ℕ) → IsSeries (in_hour seconds minutes)
 in_hour_fine seconds minutes =
-    sums_fine 60 (series_of minutes) (scaled 1 (series_of seconds)) (omega arith) (series_of_fine minutes) (scaled_fine (series_of seconds) (series_of_fine seconds))
+    sums_fine 60 (series_of minutes) (scaled 1 (series_of seconds)) (omega arith) (series_of_fine minutes)
+    (scaled_fine (series_of seconds) (series_of_fine seconds))
   where
     scaled_fine : (s : Series) → IsSeries s → IsSeries (scaled 1 s)
     scaled_fine s fine = let P : Series → Type 0 = λ x. IsSeries x in subst P (sym (scaled_one s)) fine
@@ -61,12 +62,14 @@ windows_said_has :
 windows_said_has all_hours seconds minutes hours t time below is =
     by_size (all_hours || (nat_lt 3 (length (runs hours)) || nat_lt 3600 (step_of_runs (in_hour seconds minutes)))) is
   where
-    known : (rs : List Span) (ws : List Window) → AreSpans rs → windows_after [] (step_of_runs (in_hour seconds minutes)) (in_hour seconds minutes) rs ≡ Some ws →
+    known : (rs : List Span) (ws : List Window) → AreSpans rs →
+        windows_after [] (step_of_runs (in_hour seconds minutes)) (in_hour seconds minutes) rs ≡ Some ws →
         list_any (span_has (t / 3600)) rs ≡ has_number hours (t / 3600) →
         (list_any (span_has (t / 3600)) rs && series_has (in_hour seconds minutes) (t % 3600)) ≡ is_time seconds minutes hours t
     known [] ws spans found same = sym (no_hour (has_number minutes (t / 60 % 60)) (has_number seconds (t % 60)) (has_number hours (t / 3600)) (sym same))
     known (run ∷ more) ws spans found same =
-        let series = hour_is_series (step_of_runs (in_hour seconds minutes)) (in_hour seconds minutes) run more ws (in_hour_fine seconds minutes) spans.0 found in
+        let series = hour_is_series (step_of_runs (in_hour seconds minutes)) (in_hour seconds minutes) run more ws
+        (in_hour_fine seconds minutes) spans.0 found in
         ap (λ b. b && series_has (in_hour seconds minutes) (t % 3600)) same
         ∙ ap (λ b. has_number hours (t / 3600) && b) (in_hour_has seconds minutes t series)
         ∙ turned_tests (has_number hours (t / 3600)) (has_number minutes (t / 60 % 60)) (has_number seconds (t % 60))
@@ -84,7 +87,8 @@ windows_said_has all_hours seconds minutes hours t time below is =
 
     by_size :
         (b : Bool) →
-        (if b then None else time_of_windows (step_of_runs (in_hour seconds minutes)) (windows_after [] (step_of_runs (in_hour seconds minutes)) (in_hour seconds minutes) (runs hours)))
+        (if b then None else time_of_windows (step_of_runs (in_hour seconds minutes))
+        (windows_after [] (step_of_runs (in_hour seconds minutes)) (in_hour seconds minutes) (runs hours)))
         ≡ Some time → time_has time t ≡ is_time seconds minutes hours t
     by_size true is = absurd (cc)
     by_size false is = by_windows (windows_after [] (step_of_runs (in_hour seconds minutes)) (in_hour seconds minutes) (runs hours)) refl is
@@ -136,11 +140,13 @@ listed_has :
     (seconds minutes hours : List ℕ) (t : ℕ) → AreBelow 60 seconds → AreBelow 60 minutes → AreBelow 24 hours →
     list_any (λ time. second_of_day time == t) (times_in seconds minutes hours) ≡ is_time seconds minutes hours t
 listed_has seconds minutes [] t below minutes_below hours_below =
-    sym (ap (λ x. has_number seconds (t % 60) && x) (and_right (has_number minutes (t / 60 % 60)) false refl) ∙ and_right (has_number seconds (t % 60)) false refl)
+    sym (ap (λ x. has_number seconds (t % 60) && x) (and_right (has_number minutes (t / 60 % 60)) false refl)
+    ∙ and_right (has_number seconds (t % 60)) false refl)
 listed_has seconds minutes (h ∷ hs) t below minutes_below hours_below =
     let here = hour_has h t seconds minutes hours_below.0 below minutes_below in
     let more = listed_has seconds minutes hs t below minutes_below hours_below.1 in
-    list_any-append (λ time. second_of_day time == t) (flat_map (λ m. map (λ s. time_at_second (3600 * h + (60 * m + s))) seconds) minutes) (times_in seconds minutes hs)
+    list_any-append (λ time. second_of_day time == t)
+    (flat_map (λ m. map (λ s. time_at_second (3600 * h + (60 * m + s))) seconds) minutes) (times_in seconds minutes hs)
     ∙ (λ i. here i || more i) ∙ one_more_last (has_number seconds (t % 60)) (has_number minutes (t / 60 % 60)) (h == t / 3600) (has_number hs (t / 3600))
 
 -- ---- times by their units
@@ -268,7 +274,8 @@ many_said_has :
     time_has (many_said seconds minutes hours (is_whole 0 23 hours) (in_hour seconds minutes)) t ≡ is_time seconds minutes hours t
 many_said_has seconds minutes hours t below seconds_below minutes_below hours_below =
     or_else_has (windows_said (is_whole 0 23 hours) (runs hours) (in_hour seconds minutes))
-    (if not (is_whole 0 23 hours) && (is_single minutes && is_single seconds) then Listed (times_in seconds minutes hours) else units_said seconds minutes hours)
+    (if not (is_whole 0 23 hours) && (is_single minutes && is_single seconds) then Listed (times_in seconds minutes hours)
+    else units_said seconds minutes hours)
     t (is_time seconds minutes hours t) (λ time. windows_said_has (is_whole 0 23 hours) seconds minutes hours t time below)
     (go (not (is_whole 0 23 hours) && (is_single minutes && is_single seconds)))
   where
@@ -297,7 +304,8 @@ time_said_has seconds minutes hours t below seconds_below minutes_below hours_be
         let parts = parts_are_series 3600 (series_of hours) (in_hour seconds minutes) said.1 in
         let split : t ≡ 3600 * (t / 3600) + t % 3600 = omega arith in
         said.0 ∙ ap (series_has whole) split
-        ∙ sums_have 3600 (series_of hours) (in_hour seconds minutes) (t / 3600) (t % 3600) (series_of_fine hours) (in_hour_fine seconds minutes) (omega arith) said.1
+        ∙ sums_have 3600 (series_of hours) (in_hour seconds minutes) (t / 3600) (t % 3600) (series_of_fine hours)
+        (in_hour_fine seconds minutes) (omega arith) said.1
         ∙ ap (λ b. b && series_has (in_hour seconds minutes) (t % 3600)) (series_of_has hours (t / 3600) parts.0)
         ∙ ap (λ b. has_number hours (t / 3600) && b) (in_hour_has seconds minutes t parts.1)
         ∙ turned_tests (has_number hours (t / 3600)) (has_number minutes (t / 60 % 60)) (has_number seconds (t % 60))

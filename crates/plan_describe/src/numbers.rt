@@ -117,7 +117,7 @@ fn items(alloc: Global, values: &[u16]) -> Result<Vec<Span>, AllocError>
     ensures { IfOk result (λ spans. spans.items ≡ items values.now) }
 {
     let runs = runs(alloc, values)?;
-    let mut spans = Vec::new(alloc);
+    let mut spans = Vec::with_capacity(alloc, runs.len())?;
     for run in &runs {
         add_run(&mut spans, *run)?;
     }
@@ -132,7 +132,7 @@ fn items(alloc: Global, values: &[u16]) -> Result<Vec<Span>, AllocError>
 pub(crate) fn runs(alloc: Global, values: &[u16]) -> Result<Vec<Span>, AllocError>
     ensures { IfOk result (λ spans. spans.items ≡ runs values.now) }
 {
-    let mut runs = Vec::new(alloc);
+    let mut runs = Vec::with_capacity(alloc, values.len())?;
     for value in values {
         add_number(&mut runs, *value)?;
     }

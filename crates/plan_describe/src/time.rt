@@ -242,7 +242,8 @@ fn add_hour(
     minutes: &[u16],
     seconds: &[u16],
 ) -> Result<(), AllocError>
-    ensures { OnOk result (times.new.items ≡ times.old.items ++ flat_map (λ m. map (λ s. time_at_second (3600 * hour + (60 * m + s))) seconds.now) minutes.now) }
+    ensures { OnOk result (times.new.items ≡ times.old.items
+        ++ flat_map (λ m. map (λ s. time_at_second (3600 * hour + (60 * m + s))) seconds.now) minutes.now) }
 {
     for minute in minutes {
         add_minute(times, hour, *minute, seconds)?;

@@ -39,7 +39,7 @@ joined_lines = refl
 abbrev job_of : List ℕ → List (List ℕ) → TextReading JobParts
 job_of unit texts =
     on_line 1 (in_line (each (event_reading None) texts)) >>= λ events.
-    Ok (record { name = codes "x.timer"; user = None; command = unit; rule = Events events; delay = 60 })
+    Ok (record { name = codes "x.timer"; user = None; command = unit; rule = Events events; delay = 60; persistent = false })
 
 files : RowsHold (timer_reading None (codes "x.timer"))
     -- a reset empties the list of events

@@ -248,7 +248,8 @@ place_value (Onward a step) none = go (is_within 1 31 a) refl none
 place_value (Range a b step) none = go (is_within 1 31 a && is_within 1 31 b) refl none
   where
     greatest : (a b : ℕ) → is_within 1 31 a ≡ true → is_within 1 31 b ≡ true → IsInRange 1 31 (max a b)
-    greatest a b a_within b_within = let x = range_of 1 31 a a_within in let y = range_of 1 31 b b_within in (omega (arith, x.0, x.1, y.0, y.1), omega (arith, x.0, x.1, y.0, y.1))
+    greatest a b a_within b_within = let x = range_of 1 31 a a_within in
+        let y = range_of 1 31 b b_within in (omega (arith, x.0, x.1, y.0, y.1), omega (arith, x.0, x.1, y.0, y.1))
 
     ordered : (low high : ℕ) (t : Bool) → low ≤ high → (nat_le high high && t) ≡ true → (nat_le low high && (nat_le high high && t)) ≡ true
     ordered low high t order is = grind (arith, nat_tests)

@@ -12,8 +12,9 @@ use Rattle.plan_parts.specs.Origin.{origin_of}
 use Rattle.plan_parts.specs.Parts.{files_of}
 use Rattle.plan_rules.specs.LineFaults.{TextReading}
 use Rattle.plan_rules.specs.Timer.{is_reset}
+use Rattle.plan_spans.specs.Booleans.{boolean_after}
 use Rattle.plan_systemd.specs.Rejection.{rejection_of}
-use Rattle.plan_triggers.specs.TimerFile.{has_bad_header, is_elapsing_span, turns_off, turns_on}
+use Rattle.plan_triggers.specs.TimerFile.{has_bad_header, is_elapsing_span}
 use Rattle.plan_texts.specs.WholeLines.{trimmed, whole_lines}
 use Rattle.plan_timers.specs.declared.reports.NotPlanned.{NotPlanned}
 use Rattle.plan_timers.specs.declared.reports.Unplanned.TheVariants.{LineNotLoaded, NotLoaded}
@@ -49,9 +50,6 @@ event_report parts number value (Some hint) = line_of parts number (event_why va
 
 -- what says that a timer elapses: an event or a time span, since the last reset; and the changes of the clock and of the zone
 -- (systemd.timer(5))
-abbrev pub switched : (key : List ℕ) → Bool → (setting : List ℕ × List ℕ) → Bool
-switched key before setting = if turns_on key setting then true else if turns_off key setting then false else before
-
 abbrev pub elapses_after : Bool → (setting : List ℕ × List ℕ) → (hint : Option (List ℕ)) → Bool
 elapses_after before setting hint =
     if is_reset setting then false else before || ((is_event setting && is_none hint) || is_elapsing_span setting)
@@ -59,8 +57,8 @@ elapses_after before setting hint =
 abbrev pub switches_after : Switches → (setting : List ℕ × List ℕ) → (hint : Option (List ℕ)) → Switches
 switches_after before setting hint = record {
   elapses = elapses_after before.elapses setting hint;
-  on_clock = switched (codes "OnClockChange") before.on_clock setting;
-  on_zone = switched (codes "OnTimezoneChange") before.on_zone setting;
+  on_clock = boolean_after (codes "OnClockChange") before.on_clock setting;
+  on_zone = boolean_after (codes "OnTimezoneChange") before.on_zone setting;
 }
 
 abbrev pub no_switches : Switches

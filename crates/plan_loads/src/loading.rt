@@ -35,8 +35,8 @@ impl Model for Loading {
     } };
 }
 
-/// Returns what the daemons of a machine load of a source of this kind, with these parts, by its text. `unplanned` is what isn't planned on the machine already:
-/// a file in it that cron ignores isn't loaded.
+/// Returns what the daemons of a machine load of a source of this kind, with these parts, by its text. `unplanned` is what
+/// isn't planned on the machine already: a file in it that cron ignores isn't loaded.
 ///
 /// Debian's cron loads all of a crontab or nothing: it ignores the whole file for a line that it can't read, for a line below line
 /// 10,003, and without a newline at its end (cron 3.0pl1).

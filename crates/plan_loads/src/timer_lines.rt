@@ -2,7 +2,7 @@
 
 ghost use Rattle.std.specs.Prelude.{◌≡◌, ℕ, List, Option, None, ◌++◌, ◌∷◌, [], ◌≤◌, IfOk, OnOk, is_some, length, map};
 ghost use Rattle.std.specs.Option.{option_map};
-ghost use Rattle.plan_loads.specs.TimerLines.{after_line, after_plain, after_section, after_setting, elapses_after, event_hint, event_report, event_why, is_event, is_triggered, line_of, lines_loading, loading_by, no_scan, no_switches, path_at, scan_from, switched, switches_after, timer_loading, trimmed_lines, whole_report, with_text, with_text_unless};
+ghost use Rattle.plan_loads.specs.TimerLines.{after_line, after_plain, after_section, after_setting, elapses_after, event_hint, event_report, event_why, is_event, is_triggered, line_of, lines_loading, loading_by, no_scan, no_switches, path_at, scan_from, switches_after, timer_loading, trimmed_lines, whole_report, with_text, with_text_unless};
 ghost use Rattle.plan_parts.specs.Parts.{files_of};
 ghost use Rattle.plan_rules.specs.FileText.{text_reading};
 ghost use Rattle.plan_texts.specs.Limits.{most_bytes};
@@ -13,11 +13,12 @@ ghost use Rattle.plan_units.specs.Settings.{section_name, setting_of};
 use crate::loading::{Loading, all_loaded};
 use plan_parts::Parts;
 use plan_rules::{is_reset, text_of};
+use plan_spans::boolean_after;
 use plan_systemd::rejection;
 use plan_texts::Text;
 use plan_texts::whole_lines::{WholeLine, trimmed, whole_lines};
 use plan_timers::{NotPlanned, Unplanned, copy_of};
-use plan_triggers::{has_bad_header, is_elapsing_span, turns_off, turns_on};
+use plan_triggers::{has_bad_header, is_elapsing_span};
 use plan_units::{section_name, setting_of};
 use std::alloc::{AllocError, Global};
 use std::marker::Model;
@@ -275,8 +276,8 @@ fn switches_after(before: Switches, key: &str, value: &str, is_rejected: bool) -
 {
     Switches {
         elapses: elapses_after(before.elapses, key, value, is_rejected),
-        on_clock: switched("OnClockChange", before.on_clock, key, value),
-        on_zone: switched("OnTimezoneChange", before.on_zone, key, value),
+        on_clock: boolean_after("OnClockChange", before.on_clock, key, value),
+        on_zone: boolean_after("OnTimezoneChange", before.on_zone, key, value),
     }
 }
 
@@ -289,19 +290,6 @@ fn elapses_after(before: bool, key: &str, value: &str, is_rejected: bool) -> boo
         return false;
     }
     before || (is_event(key, value) && !is_rejected) || is_elapsing_span(key, value)
-}
-
-// Returns whether a timer elapses at such changes after a setting.
-fn switched(change: &str, before: bool, key: &str, value: &str) -> bool
-    ensures { result ≡ switched change.now before (key.now, value.now) }
-{
-    if turns_on(change, key, value) {
-        return true;
-    }
-    if turns_off(change, key, value) {
-        return false;
-    }
-    before
 }
 
 // Returns whether a setting has an event.

@@ -18,14 +18,17 @@ abbrev pub is_file : Node → Bool
 is_file (File is_empty) = true
 is_file _ = false
 
--- a regular file that can be read, with its first `most` bytes. /dev/null is none, whatever the tree has there (agenda)
-abbrev pub read_file : Held → (most : ℕ) → List ℕ → List ℕ → Option FileBytes
-read_file held most path real =
-    if bytes_eq real null_path || not (is_file (held.node real)) then None else
-    option_map (λ bytes. record { path = path; bytes = take most bytes }) (held.bytes real)
+-- the first `most` bytes of a regular file that can be read. /dev/null is none, whatever the tree has there (agenda)
+abbrev pub bytes_at : Held → (most : ℕ) → List ℕ → Option (List ℕ)
+bytes_at held most real =
+    if bytes_eq real null_path || not (is_file (held.node real)) then None else option_map (take most) (held.bytes real)
 
--- the file where a path leads
+-- those of the file where a path leads
+abbrev pub bytes_of_end : Held → (most : ℕ) → End → Option (List ℕ)
+bytes_of_end held most (Found real) = bytes_at held most real
+bytes_of_end held most Nothing = None
+bytes_of_end held most Unknown = None
+
+-- the file where a path leads, with its first `most` bytes
 abbrev pub file_at : Held → (most : ℕ) → List ℕ → End → Option FileBytes
-file_at held most path (Found real) = read_file held most path real
-file_at held most path Nothing = None
-file_at held most path Unknown = None
+file_at held most path end = option_map (λ bytes. record { path = path; bytes = bytes }) (bytes_of_end held most end)

@@ -3,18 +3,17 @@ use Rattle.std.specs.Prelude.{ℕ, Bool, not, ◌&&◌, ◌||◌, ◌==◌, if�
 use Rattle.std.specs.Char.{is_ascii_alphanumeric}
 use Rattle.std.specs.List.{list_all}
 use Rattle.std.specs.Option.{option_and_then, option_map}
-use Rattle.std.specs.Str.{byte, bytes_eq}
+use Rattle.std.specs.Str.{byte}
 use Rattle.plan_texts.specs.Text.{cut_at, pieces}
 use Rattle.plan_tree.specs.declared.links.End.{End}
 use Rattle.plan_tree.specs.declared.links.End.TheVariants as end
 use Rattle.plan_tree.specs.declared.tree.Node.{Node}
 use Rattle.plan_tree.specs.declared.tree.Node.TheVariants as node
-use Rattle.plan_tree.specs.Links.{null_path}
 use Rattle.plan_tree.specs.Place.{child}
 use Rattle.plan_tree.specs.Tree.{Held}
 use Rattle.plan_machine.specs.declared.zone.MachineZone.{MachineZone}
 use Rattle.plan_machine.specs.declared.zone.MachineZone.TheVariants as machine
-use Rattle.plan_machine.specs.Files.{is_file, lead_of}
+use Rattle.plan_machine.specs.Files.{bytes_of_end, lead_of}
 
 -- the zone of a machine: UTC, one with a name and the bytes of its file, one that a file gives, or an unknown one. The bytes are
 -- None if the file can't be read
@@ -47,16 +46,6 @@ abbrev pub name_in : List ℕ → Option (List ℕ)
 name_in text = option_and_then (λ parts. name_or_none parts.1) (cut_at (codes "zoneinfo/") text)
 
 -- ---- the files of zones
-
--- a regular file that can be read, with its first `most` bytes. /dev/null is none, whatever the tree has there (agenda)
-abbrev pub bytes_at : Held → (most : ℕ) → List ℕ → Option (List ℕ)
-bytes_at held most real =
-    if bytes_eq real null_path || not (is_file (held.node real)) then None else option_map (take most) (held.bytes real)
-
-abbrev pub bytes_of_end : Held → (most : ℕ) → End → Option (List ℕ)
-bytes_of_end held most (end.Found real) = bytes_at held most real
-bytes_of_end held most end.Nothing = None
-bytes_of_end held most end.Unknown = None
 
 -- the file of a zone is in usr/share/zoneinfo, under the zone's name (tzfile(5))
 abbrev pub database_path : List ℕ → List ℕ

@@ -1,7 +1,8 @@
 //! Where a path leads, and the file there.
 
 ghost use Rattle.std.specs.Prelude.{◌≡◌, true, IfOk};
-ghost use Rattle.plan_machine.specs.Files.{file_at, is_file, lead_of, read_file};
+ghost use Rattle.std.specs.Option.{option_map};
+ghost use Rattle.plan_machine.specs.Files.{bytes_at, bytes_of_end, file_at, is_file, lead_of};
 
 use plan_parts::Part;
 use plan_timers::copy_of;
@@ -27,29 +28,42 @@ pub(crate) fn file_at<T: Tree>(
 ) -> Result<Option<Part>, AllocError>
     ensures { T.is_known ≡ true → IfOk result (λ file. file ≡ file_at (T.held tree.now) most path.now end.now) }
 {
+    match bytes_of_end(alloc, tree, most, end)? {
+        None => Ok(None),
+        Some(bytes) => Ok(Some(Part::new(copy_of(alloc, path)?, bytes))),
+    }
+}
+
+// Returns the first `most` bytes of the file where a path leads.
+pub(crate) fn bytes_of_end<T: Tree>(
+    alloc: Global,
+    tree: &T,
+    most: u64,
+    end: &End,
+) -> Result<Option<Vec<u8>>, AllocError>
+    ensures { T.is_known ≡ true → IfOk result (λ found.
+        option_map (λ bytes. bytes.items) found ≡ bytes_of_end (T.held tree.now) most end.now) }
+{
     match end {
-        End::Found(real) => read_file(alloc, tree, most, path, real.as_str()),
+        End::Found(real) => bytes_at(alloc, tree, most, real.as_str()),
         End::Nothing | End::Unknown => Ok(None),
     }
 }
 
-// Returns the file at the end of a path's links. It is opened once.
-fn read_file<T: Tree>(
+// Returns the first `most` bytes of the file at the end of a path's links. Only a regular file is opened, once.
+fn bytes_at<T: Tree>(
     alloc: Global,
     tree: &T,
     most: u64,
-    path: &str,
     real: &str,
-) -> Result<Option<Part>, AllocError>
-    ensures { T.is_known ≡ true → IfOk result (λ file. file ≡ read_file (T.held tree.now) most path.now real.now) }
+) -> Result<Option<Vec<u8>>, AllocError>
+    ensures { T.is_known ≡ true → IfOk result (λ found.
+        option_map (λ bytes. bytes.items) found ≡ bytes_at (T.held tree.now) most real.now) }
 {
     if real == "dev/null" || !is_file(&tree.node(alloc, real)?) {
         return Ok(None);
     }
-    match tree.front(alloc, real, most)? {
-        None => Ok(None),
-        Some(bytes) => Ok(Some(Part::new(copy_of(alloc, path)?, bytes))),
-    }
+    tree.front(alloc, real, most)
 }
 
 // Returns whether a node is a regular file.

@@ -1,18 +1,14 @@
 //! The time zone of a machine (localtime(5)).
 
 ghost use Rattle.std.specs.Prelude.{◌≡◌, true, IfOk};
-ghost use Rattle.std.specs.List.{list_all};
 ghost use Rattle.std.specs.Option.{option_map};
 ghost use Rattle.plan_machine.specs.Files.{lead_of};
-ghost use Rattle.plan_machine.specs.Zone.{are_parts, bytes_at, bytes_of_end, database_bytes, database_path, is_name_byte, is_zone_name, machine_zone, name_in, zone_at, zone_of_link, zone_shown};
+ghost use Rattle.plan_machine.specs.Zone.{are_parts, database_bytes, is_name_byte, is_zone_name, machine_zone, name_in, zone_at, zone_of_link, zone_shown};
 
-use crate::files::{is_file, lead_of};
+use crate::files::{bytes_of_end, lead_of};
 use plan_texts::{Text, cut};
-use plan_tree::{End, Node, Tree};
+use plan_tree::{Node, Tree};
 use std::alloc::{AllocError, Global};
-
-// The directory of the zones of a machine, with a slash at its end (tzfile(5)).
-const ZONE_DIRECTORY: &str = "usr/share/zoneinfo/";
 
 /// The time zone of a machine, as its etc/localtime says.
 #[derive(Debug, Drop)]
@@ -114,14 +110,7 @@ fn name_in(text: &str) -> Option<&str>
 fn is_zone_name(text: &[u8]) -> bool
     ensures { result ≡ is_zone_name text.now }
 {
-    are_name_bytes(text) && are_parts(text)
-}
-
-// Returns whether a zone's name may have all these bytes.
-fn are_name_bytes(bytes: &[u8]) -> bool
-    ensures { result ≡ list_all is_name_byte bytes.now }
-{
-    bytes.iter().all(|byte| is_name_byte(*byte))
+    text.iter().all(|byte| is_name_byte(*byte)) && are_parts(text)
 }
 
 // Returns whether no part of a text between its slashes is empty.
@@ -139,7 +128,7 @@ fn is_name_byte(byte: u8) -> bool
     byte.is_ascii_alphanumeric() || matches!(byte, b'_' | b'-' | b'+' | b'/')
 }
 
-// Returns the first `most` bytes of the file of the zone with this name.
+// Returns the first `most` bytes of the file of the zone with this name (tzfile(5)).
 fn database_bytes<T: Tree>(
     alloc: Global,
     tree: &T,
@@ -149,48 +138,7 @@ fn database_bytes<T: Tree>(
     ensures { T.is_known ≡ true → IfOk result (λ found.
         option_map (λ bytes. bytes.items) found ≡ database_bytes (T.held tree.now) most name.now) }
 {
-    let path = database_path(alloc, name)?;
+    let path = format!(in alloc; "usr/share/zoneinfo/{name}")?;
     let end = lead_of(alloc, tree, path.as_str())?;
     bytes_of_end(alloc, tree, most, &end)
-}
-
-// Returns the path of the file of the zone with this name.
-fn database_path(alloc: Global, name: &str) -> Result<Text, AllocError>
-    ensures { IfOk result (λ path. path ≡ database_path name.now) }
-{
-    let mut path = String::from_str(alloc, ZONE_DIRECTORY)?;
-    path.push_str(name)?;
-    Ok(Text::new(path))
-}
-
-// Returns the first `most` bytes of the file where a path leads.
-fn bytes_of_end<T: Tree>(
-    alloc: Global,
-    tree: &T,
-    most: u64,
-    end: &End,
-) -> Result<Option<Vec<u8>>, AllocError>
-    ensures { T.is_known ≡ true → IfOk result (λ found.
-        option_map (λ bytes. bytes.items) found ≡ bytes_of_end (T.held tree.now) most end.now) }
-{
-    match end {
-        End::Found(real) => bytes_at(alloc, tree, most, real.as_str()),
-        End::Nothing | End::Unknown => Ok(None),
-    }
-}
-
-// Returns the first `most` bytes of the file at the end of a path's links. Only a regular file is opened.
-fn bytes_at<T: Tree>(
-    alloc: Global,
-    tree: &T,
-    most: u64,
-    real: &str,
-) -> Result<Option<Vec<u8>>, AllocError>
-    ensures { T.is_known ≡ true → IfOk result (λ found.
-        option_map (λ bytes. bytes.items) found ≡ bytes_at (T.held tree.now) most real.now) }
-{
-    if real == "dev/null" || !is_file(&tree.node(alloc, real)?) {
-        return Ok(None);
-    }
-    tree.front(alloc, real, most)
 }

@@ -20,7 +20,8 @@ use Rattle.plan_rules.specs.FileText.{text_reading}
 use Rattle.plan_rules.specs.Job.{JobParts}
 use Rattle.plan_texts.specs.WholeLines.{whole_lines, whole_text, trimmed}
 use Rattle.plan_rules.specs.Timer.{Effect, Reset, Event, Starts, Nothing, is_timer_name, effects_from, has_timer, job_with, settings_from}
-use Rattle.plan_rules.specs.TimerDelays.{delay_of}
+use Rattle.plan_rules.specs.TimerOptions.{options_of}
+use Rattle.plan_rules.specs.declared.timer_options.TimerOptions.{TimerOptions}
 use Rattle.plan_rules.specs.TimerEntries.{EventCount, after_event_text, count_after, Has, Idle, entries_from, entry_of, lines_draft, no_events, timer_of_lines, timer_reading}
 use Rattle.plan_texts.specs.EachLaws.{err_steps}
 use Rattle.plan_texts.specs.Steps.{GivesUnless}
@@ -71,10 +72,10 @@ entries_fault zones count ((number, Starts unit) ∷ more) x = entries_fault zon
 entries_fault zones count ((number, Nothing) ∷ more) x = entries_fault zones count more x
 
 job_fault :
-    (found : Bool) (name : List ℕ) (unit : Option (List ℕ)) (events : List Calendar) (delay : ℕ) →
-    IfErr (job_with found name unit events delay) IsOwnFault
-job_fault true name unit events delay = tt
-job_fault false name unit events delay = on {A = JobParts} 0 (Err NoTimerSection) tt
+    (found : Bool) (name : List ℕ) (unit : Option (List ℕ)) (events : List Calendar) (options : TimerOptions) →
+    IfErr (job_with found name unit events options) IsOwnFault
+job_fault true name unit events options = tt
+job_fault false name unit events options = on {A = JobParts} 0 (Err NoTimerSection) tt
 
 -- every error of a timer's lines is of a line
 pub own_lines :
@@ -84,7 +85,7 @@ own_lines answer zones name lines gives =
     answered (λ job. job) answer (timer_of_lines zones name lines) gives
     (err_steps IsOwnFault (unless_faulty (faults_of (entries_from zones no_events (effects_from false lines))) (lines_draft zones lines)) _
     (entries_fault zones no_events (effects_from false lines) (lines_draft zones lines))
-    (λ draft. job_fault (has_timer lines) name draft.unit draft.events (delay_of (settings_from false lines))))
+    (λ draft. job_fault (has_timer lines) name draft.unit draft.events (options_of (settings_from false lines))))
 
 -- ---- the bytes
 

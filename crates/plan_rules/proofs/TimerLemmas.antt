@@ -1,22 +1,23 @@
 -- A timer file that is read line by line: for the loop of `timer_of_lines`.
 -- The state and the remaining lines together mean what the whole file means (`rest_reading`), from one line to the next.
-use Rattle.std.proofs.Common.{◌≡◌, ℕ, ◌+◌, ◌<◌, ◌||◌, true, false, min, List, length, drop, get_or, map, Option, Some, None, Ok, Err, unwrap_or, refl, ap, sym, ◌∙◌, arith}
+use Rattle.std.proofs.Common.{◌≡◌, ℕ, Bool, ◌+◌, ◌<◌, ◌||◌, true, false, min, List, length, drop, get_or, map, Option, Some, None, Ok, Err, unwrap_or, refl, ap, sym, ◌∙◌, arith}
 use Rattle.std.proofs.Math.Bool.{or_assoc}
 use Rattle.std.specs.Int.{div_ceil}
 use Rattle.std.specs.List.{cons_option, filter_map}
 use Rattle.std.specs.Str.{bytes_eq}
 use Rattle.plan_sets.specs.Limits.{end_second}
+use Rattle.plan_spans.specs.Booleans.{boolean_of}
 use Rattle.plan_spans.specs.Spans.{time_span}
 use Rattle.plan_match.specs.declared.event.Calendar.{Calendar}
 use Rattle.plan_texts.specs.Steps.{◌>>=◌}
 use Rattle.plan_rules.specs.declared.entry.Entry.{Entry}
 use Rattle.plan_rules.specs.declared.line_fault.LineFault.{LineFault}
-use Rattle.plan_rules.specs.declared.timer_delays.TimerDelays.{TimerDelays}
+use Rattle.plan_rules.specs.declared.timer_options.TimerOptions.{TimerOptions}
 use Rattle.plan_rules.specs.Entries.{fault_on, faults_of, unless_faulty}
 use Rattle.plan_rules.specs.Job.{JobParts}
 use Rattle.plan_rules.specs.LineFaults.{LineReading, TextReading}
 use Rattle.plan_rules.specs.Timer.{effects_from, has_timer, inside_after, job_with, section_name, settings_from, timer_setting}
-use Rattle.plan_rules.specs.TimerDelays.{Setting, accuracy_key, delay_seconds, delays_after, delays_with, last_or, last_span, random_key, span_after, span_of}
+use Rattle.plan_rules.specs.TimerOptions.{Setting, accuracy_key, last_boolean, last_or, last_span, options_after, options_with, persistent_after, persistent_key, random_key, span_after, span_of}
 use Rattle.plan_rules.specs.TimerEntries.{Draft, LineStep, Idle, Empties, Has, Names, TimerState, draft_after, draft_from, entries_from, entry_of, line_in, fault_in_line, state_after, steps_from}
 use Rattle.plan_rules.proofs.TimerEntryLemmas.{lines_more}
 
@@ -46,13 +47,22 @@ span_front :
 span_front key before None more = refl
 span_front key before (Some setting) more = last_front before (span_of key setting) (filter_map (span_of key) more)
 
--- the time spans of the delay, by those before a line
-pub delays_front :
-    (delays : TimerDelays) (setting : Option Setting) (more : List Setting) →
-    delays_with delays (cons_option setting more) ≡ delays_with (delays_after delays setting) more
-delays_front delays setting more = λ i. record {
-  random = span_front random_key delays.random setting more i;
-  accuracy = span_front accuracy_key delays.accuracy setting more i;
+-- whether the timer is persistent, by whether it was before a line
+persistent_front :
+    (before : Bool) (setting : Option Setting) (more : List Setting) →
+    last_boolean persistent_key before (cons_option setting more) ≡ last_boolean persistent_key (persistent_after before setting) more
+persistent_front before None more = refl
+persistent_front before (Some setting) more =
+    last_front before (boolean_of persistent_key setting) (filter_map (boolean_of persistent_key) more)
+
+-- the options, by those before a line
+pub options_front :
+    (options : TimerOptions) (setting : Option Setting) (more : List Setting) →
+    options_with options (cons_option setting more) ≡ options_with (options_after options setting) more
+options_front options setting more = λ i. record {
+  random = span_front random_key options.random setting more i;
+  accuracy = span_front accuracy_key options.accuracy setting more i;
+  persistent = persistent_front options.persistent setting more i;
 }
 
 -- ---- the file, from the remaining lines
@@ -63,13 +73,13 @@ unless_fault None reading = reading
 unless_fault (Some fault) reading = Err fault
 
 -- the meaning of a file, from the state and the remaining lines
-abbrev pub rest_reading : List ℕ → TimerState → Draft → TimerDelays → List (ℕ × List ℕ) → TextReading JobParts
-rest_reading name state draft delays lines =
+abbrev pub rest_reading : List ℕ → TimerState → Draft → TimerOptions → List (ℕ × List ℕ) → TextReading JobParts
+rest_reading name state draft options lines =
     let effects = effects_from state.inside lines in
     unless_faulty (faults_of (entries_from state.zones state.count effects))
     (draft_from draft (steps_from state.zones state.count effects))
     >>= λ all. job_with (state.found || has_timer lines) name all.unit all.events
-    (delay_seconds (delays_with delays (settings_from state.inside lines)))
+    (options_with options (settings_from state.inside lines))
 
 event_first :
     {A B : Type 0} (number : ℕ) (read : LineReading A) (more : List LineFault) (draft : Draft) (next : Draft → TextReading B) →
@@ -89,23 +99,23 @@ step_first (Names unit) more draft next = refl
 
 -- the line at a position
 pub rest_reading-more :
-    {A : Type 0} (v : A → ℕ × List ℕ) (name : List ℕ) (state : TimerState) (draft : Draft) (delays : TimerDelays) (lines : List A)
+    {A : Type 0} (v : A → ℕ × List ℕ) (name : List ℕ) (state : TimerState) (draft : Draft) (options : TimerOptions) (lines : List A)
     (place : ℕ) (line : A) (fault : Option LineFault) → place < length lines → line ≡ get_or lines place line →
     fault ≡ fault_in_line (line_in state (v line)) →
-    rest_reading name state draft delays (map v (drop place lines))
+    rest_reading name state draft options (map v (drop place lines))
     ≡ unless_fault fault (rest_reading name (state_after state (v line).1) (draft_after draft (line_in state (v line)))
-    (delays_after delays (timer_setting state.inside (v line).1)) (map v (drop (place + 1) lines)))
-rest_reading-more v name state draft delays lines place line fault inside is same =
+    (options_after options (timer_setting state.inside (v line).1)) (map v (drop (place + 1) lines)))
+rest_reading-more v name state draft options lines place line fault inside is same =
     let text = (v line).1 in
     let step = line_in state (v line) in
     let after = state_after state text in
     let more = map v (drop (place + 1) lines) in
     let effects = effects_from after.inside more in
-    ap (rest_reading name state draft delays) (lines_more v lines place line inside is)
+    ap (rest_reading name state draft options) (lines_more v lines place line inside is)
     ∙ (λ i. unless_faulty (faults_of (cons_option (entry_of step) (entries_from after.zones after.count effects)))
     (draft_from (draft_after draft step) (steps_from after.zones after.count effects))
     >>= λ all. job_with (sym (or_assoc state.found (inside_after false (section_name text)) (has_timer more)) i) name all.unit all.events
-    (delay_seconds (delays_front delays (timer_setting state.inside text) (settings_from after.inside more) i)))
+    (options_front options (timer_setting state.inside text) (settings_from after.inside more) i))
     ∙ step_first step (entries_from after.zones after.count effects) _ _
     ∙ ap (λ found. unless_fault found (rest_reading name after (draft_after draft step)
-    (delays_after delays (timer_setting state.inside text)) more)) (sym same)
+    (options_after options (timer_setting state.inside text)) more)) (sym same)

@@ -21,7 +21,7 @@ use Rattle.plan_rules.specs.Job.{JobParts}
 use Rattle.plan_rules.specs.Limits.{most_events}
 use Rattle.plan_rules.specs.LineFaults.{TextReading, in_line, on_line}
 use Rattle.plan_rules.specs.Timer.{Effect, Reset, Event, Starts, Nothing, effects_from, has_timer, is_timer_name, job_with, settings_from}
-use Rattle.plan_rules.specs.TimerDelays.{delay_of}
+use Rattle.plan_rules.specs.TimerOptions.{options_of}
 use Rattle.plan_rules.specs.TimerEntries.{EventCount, LineStep, Idle, Empties, Has, Names, after_event_text, count_after, draft_from, entry_of, no_draft, no_events, steps_from, timer_lines, timer_of_lines, timer_reading}
 use Rattle.plan_rules.specs.TimerZones.{HaveSameClocks, are_ascii, effect_zone, lines_zones, timer_zones}
 
@@ -119,7 +119,7 @@ same_lines :
 same_lines zones others name (Err fault) first second same = refl
 same_lines zones others name (Ok lines) first second same =
     ap (λ (steps : List LineStep). unless_faulty (faults_of (filter_map entry_of steps)) (draft_from no_draft steps)
-    >>= λ draft. job_with (has_timer lines) name draft.unit draft.events (delay_of (settings_from false lines)))
+    >>= λ draft. job_with (has_timer lines) name draft.unit draft.events (options_of (settings_from false lines)))
     (same_steps zones others no_events (effects_from false lines) first second same)
 
 pub zones_law :

@@ -1,5 +1,5 @@
 -- The meaning of a crontab (crontab(5)): the jobs of its lines, or its first error with its line.
-use Rattle.std.specs.Prelude.{ℕ, ◌+◌, Bool, ◌||◌, ◌==◌, if◌then◌else◌, List, ◌++◌, length, codes, Option, Some, None, Ok, Err}
+use Rattle.std.specs.Prelude.{ℕ, ◌+◌, Bool, false, ◌||◌, ◌==◌, if◌then◌else◌, List, ◌++◌, length, codes, Option, Some, None, Ok, Err}
 use Rattle.std.specs.Char.{is_ascii_alphabetic}
 use Rattle.std.specs.Fmt.{decimal}
 use Rattle.std.specs.List.{list_any, filter_map, enumerate_from, slice_get}
@@ -52,7 +52,7 @@ unfoldable pub job_reading : (label : List ℕ) → Kind → ℕ → List ℕ �
 job_reading label kind number text = do
   front ← in_line (rule_in_front text)
   run ← what_reading kind (front.1)
-  Ok (record { name = job_name label number; user = run.0; command = run.1; rule = front.0; delay = 0 })
+  Ok (record { name = job_name label number; user = run.0; command = run.1; rule = front.0; delay = 0; persistent = false })
 
 -- the first characters of a setting: a letter, `_`, or a quote (agenda)
 abbrev pub begins_setting : ℕ → Bool

@@ -19,7 +19,7 @@ pub mod Crontab
 pub mod Delays
 pub mod Jobs
 pub mod Zone
-pub mod TimerDelays
+pub mod TimerOptions
 pub mod Timer
 pub mod SourceKind
 pub mod TimerEntries

@@ -14,7 +14,8 @@ use Rattle.plan_rules.specs.Limits.{least_name, most_name}
 use Rattle.plan_texts.specs.Text.{begins_with}
 use Rattle.plan_rules.specs.LineFaults.{TextReading, on_line}
 use Rattle.plan_rules.specs.Job.{JobParts}
-use Rattle.plan_rules.specs.TimerDelays.{Setting}
+use Rattle.plan_rules.specs.TimerOptions.{Setting, delay_seconds}
+use Rattle.plan_rules.specs.declared.timer_options.TimerOptions.{TimerOptions}
 use Rattle.plan_texts.specs.WholeLines.{trimmed}
 
 -- ---- the name
@@ -142,14 +143,20 @@ has_timer lines = list_any (λ line. inside_after false (section_name (line.1)))
 
 -- ---- the job
 
--- the job of a timer, from its name, the unit that it names, its events, and its delay (systemd.timer(5))
-abbrev pub timer_job : List ℕ → Option (List ℕ) → List Calendar → (delay : ℕ) → JobParts
-timer_job name unit events delay =
-    record { name = name; user = None; command = unwrap_or unit (service_name name); rule = Events events; delay = delay }
+-- the job of a timer, from its name, the unit that it names, its events, and its options (systemd.timer(5))
+abbrev pub timer_job : List ℕ → Option (List ℕ) → List Calendar → TimerOptions → JobParts
+timer_job name unit events options = record {
+  name = name;
+  user = None;
+  command = unwrap_or unit (service_name name);
+  rule = Events events;
+  delay = delay_seconds options;
+  persistent = options.persistent;
+}
 
 -- the same; a `[Timer]` section is required (systemd.timer(5))
-abbrev pub job_with : Bool → List ℕ → Option (List ℕ) → List Calendar → (delay : ℕ) → TextReading JobParts
-job_with found name unit events delay =
+abbrev pub job_with : Bool → List ℕ → Option (List ℕ) → List Calendar → TimerOptions → TextReading JobParts
+job_with found name unit events options =
     if found
-    then Ok (timer_job name unit events delay)
+    then Ok (timer_job name unit events options)
     else on_line 0 (Err NoTimerSection)

@@ -20,7 +20,7 @@ use Rattle.plan_rules.specs.FileText.{text_reading}
 use Rattle.plan_rules.specs.Job.{JobParts}
 use Rattle.plan_rules.specs.LineFaults.{LineReading, TextReading, in_line, on_line}
 use Rattle.plan_rules.specs.Timer.{Effect, Reset, Event, Starts, Nothing, effects_from, has_timer, inside_after, is_timer_name, job_with, line_effect, section_name, setting_of, settings_from}
-use Rattle.plan_rules.specs.TimerDelays.{delay_of}
+use Rattle.plan_rules.specs.TimerOptions.{options_of}
 
 -- ---- the list of events, where a rejected event counts like a valid one (agenda)
 
@@ -190,7 +190,7 @@ lines_draft zones lines = draft_from no_draft (all_steps zones lines)
 abbrev pub timer_of_lines : Zones → (name : List ℕ) → List (ℕ × List ℕ) → TextReading JobParts
 timer_of_lines zones name lines = do
   draft ← unless_faulty (faults_of (filter_map entry_of (all_steps zones lines))) (lines_draft zones lines)
-  job_with (has_timer lines) name draft.unit draft.events (delay_of (settings_from false lines))
+  job_with (has_timer lines) name draft.unit draft.events (options_of (settings_from false lines))
 
 -- the meaning of a timer file whose events may name these zones: its name is checked first, then its bytes, then its lines are
 -- read (agenda)

@@ -153,7 +153,8 @@ fn job(alloc: Global, label: &str, kind: Kind, number: u32, line: &str) -> Resul
     let (rule, rest) = rule_in_front(alloc, line)?;
     let (user, command) = what(alloc, kind, rest)?;
     let name = job_name(alloc, label, number)?;
-    Ok(Job::new(name, user, command, Arc::new(alloc, rule)?, 0))
+    let rule = Arc::new(alloc, rule)?;
+    Ok(Job::new(name, user, command, rule, 0, false))
 }
 
 // Returns what the job of a line runs, from the text that follows its rule: the user, if the line names one,

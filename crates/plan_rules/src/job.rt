@@ -1,4 +1,4 @@
-//! A job: its name, what it runs, the rule by which it starts, and its delay.
+//! A job: its name, what it runs, the rule by which it starts, its delay, and whether it makes up for missed starts.
 
 ghost use Rattle.std.specs.Prelude.{◌≡◌, option_map, string_bytes, OnErr, OnOk};
 ghost use Rattle.std.specs.Arc.{arc_value};
@@ -12,7 +12,8 @@ use std::alloc::{AllocError, Global};
 use std::marker::Model;
 use std::sync::Arc;
 
-/// A job of a crontab or of a timer file: its name, what it runs, the rule by which it starts, and its delay.
+/// A job of a crontab or of a timer file: its name, what it runs, the rule by which it starts, its delay, and whether it
+/// makes up for a start that was missed.
 #[derive(Debug, Drop)]
 pub struct Job {
     name: String,
@@ -20,6 +21,7 @@ pub struct Job {
     command: String,
     rule: Arc<Rule>,
     delay: u64,
+    is_persistent: bool,
 }
 
 impl Model for Job {
@@ -37,6 +39,7 @@ impl Model for Job {
       command = string_bytes job.command;
       rule = arc_value job.rule;
       delay = job.delay;
+      persistent = job.is_persistent;
     } };
 }
 
@@ -48,12 +51,14 @@ impl Job {
         command: String,
         rule: Arc<Rule>,
         delay: u64,
+        is_persistent: bool,
     ) -> Job
         ensures name { result.name ≡ string_bytes name }
         ensures user { result.user ≡ option_map (λ user. string_bytes user) user }
         ensures command { result.command ≡ string_bytes command }
         ensures rule { result.rule ≡ arc_value rule }
         ensures delay { result.delay ≡ delay }
+        ensures persistent { result.persistent ≡ is_persistent }
     {
         Job {
             name,
@@ -61,6 +66,7 @@ impl Job {
             command,
             rule,
             delay,
+            is_persistent,
         }
     }
 
@@ -127,5 +133,13 @@ impl Job {
         ensures { result ≡ self.now.delay }
     {
         self.delay
+    }
+
+    /// Returns whether the job makes up for a start that was missed: it is that of a timer with `Persistent=`, which starts
+    /// its unit once when it becomes active again (systemd.timer(5)).
+    pub fn is_persistent(&self) -> bool
+        ensures { result ≡ self.now.persistent }
+    {
+        self.is_persistent
     }
 }

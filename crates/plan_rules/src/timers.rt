@@ -13,9 +13,9 @@ ghost use Rattle.plan_rules.specs.Timer.{is_name_byte, is_timer_name, service_na
 use crate::file_text::text_of;
 use crate::job::Job;
 use crate::line_fault::{LineCause, LineFault};
-use crate::timer_delays::TimerDelays;
 use crate::timer_draft::TimerDraft;
 use crate::timer_events::TimerReader;
+use crate::timer_options::TimerOptions;
 use plan_grammar::EventZones;
 use plan_match::{Events, Rule};
 use plan_texts::whole_lines::{WholeLine, whole_lines};
@@ -39,7 +39,7 @@ pub const MOST_EVENTS: usize = 64;
 /// Its rule is the list of the events of `OnCalendar=` in its `[Timer]` sections. An empty value of a time
 /// setting, such as `OnCalendar=` or `OnBootSec=`, empties the list. The job starts the first unit that
 /// `Unit=` names or, without `Unit=`, the service with the timer's name. Its delay is that of
-/// `RandomizedDelaySec=` and `AccuracySec=`.
+/// `RandomizedDelaySec=` and `AccuracySec=`, and `Persistent=` says whether it makes up for missed starts.
 ///
 /// # Errors
 ///
@@ -113,9 +113,9 @@ fn timer_of_lines(
 {
     let mut reader = TimerReader::new(zones);
     let mut draft = TimerDraft::new(alloc);
-    let mut delays = TimerDelays::new();
+    let mut options = TimerOptions::new();
     for line in lines {
-        delays = delays.after(reader.setting(line));
+        options = options.after(reader.setting(line));
         let read = reader.read(alloc, line)?;
         if let Some(fault) = read.fault() {
             return Err(fault);
@@ -126,11 +126,11 @@ fn timer_of_lines(
         return Err(LineCause::NoTimerSection.on_line(0));
     }
     let TimerDraft { events, unit } = draft;
-    Ok(timer_job(alloc, name, unit, events, delays.seconds())?)
+    Ok(timer_job(alloc, name, unit, events, options)?)
 }
 
 /// Returns the job of the timer file with a valid name, from the unit that it names, if it does, its list of events,
-/// and its delay in seconds (systemd.timer(5)).
+/// and its options (systemd.timer(5)).
 ///
 /// # Errors
 ///
@@ -140,10 +140,10 @@ pub fn timer_job(
     name: &str,
     unit: Option<String>,
     events: Events,
-    delay: u64,
+    options: TimerOptions,
 ) -> Result<Job, AllocError>
     requires { is_timer_name name.now ≡ true }
-    ensures { IfOk result (λ job. job ≡ timer_job name.now (option_map (λ unit. string_bytes unit) unit) events delay) }
+    ensures { IfOk result (λ job. job ≡ timer_job name.now (option_map (λ unit. string_bytes unit) unit) events options) }
 {
     let command = match unit {
         Some(unit) => unit,
@@ -151,7 +151,8 @@ pub fn timer_job(
     };
     let name = String::from_str(alloc, name)?;
     let rule = Arc::new(alloc, Rule::Events(events))?;
-    Ok(Job::new(name, None, command, rule, delay))
+    let (delay, is_persistent) = (options.seconds(), options.persistent);
+    Ok(Job::new(name, None, command, rule, delay, is_persistent))
 }
 
 // Returns the name of the service that a timer starts if it names no unit.

@@ -1,13 +1,14 @@
 -- Whether a service has a command to start, or may do without one (systemd.service(5); the checks are those of systemd 252).
-use Rattle.std.specs.Prelude.{ℕ, Bool, true, false, not, ◌&&◌, ◌||◌, ◌==◌, nat_eq, if◌then◌else◌, List, [], ◌∷◌, length, Option, None, Some, codes}
+use Rattle.std.specs.Prelude.{ℕ, Bool, true, false, not, ◌&&◌, ◌||◌, ◌==◌, nat_eq, if◌then◌else◌, List, [], ◌∷◌, length, Option, None, Some, codes, unwrap_or}
 use Rattle.std.specs.List.{ends_with, list_any}
-use Rattle.std.specs.Str.{bytes_eq, str_eq_ignore_ascii_case}
+use Rattle.std.specs.Str.{bytes_eq}
 use Rattle.plan_services.specs.declared.commands.Commands.{Commands}
 use Rattle.plan_services.specs.declared.commands.Section.{Section}
 use Rattle.plan_services.specs.declared.commands.Section.TheVariants as section
 use Rattle.plan_services.specs.declared.commands.ServiceType.{ServiceType}
 use Rattle.plan_services.specs.declared.commands.ServiceType.TheVariants as type
 use Rattle.plan_services.specs.Texts.{lines_at}
+use Rattle.plan_spans.specs.Booleans.{boolean}
 use Rattle.plan_texts.specs.WholeLines.{trimmed}
 use Rattle.plan_tree.specs.Tree.{Held}
 use Rattle.plan_units.specs.declared.merging.Entry.{Entry}
@@ -42,19 +43,9 @@ action_after before value =
     if list_any (bytes_eq value) actions then true else
     before
 
--- the values that are true or false, in any case (systemd.syntax(7))
-abbrev pub yes_values : List (List ℕ)
-yes_values = codes "1" ∷ codes "yes" ∷ codes "y" ∷ codes "true" ∷ codes "t" ∷ codes "on" ∷ []
-
-abbrev pub no_values : List (List ℕ)
-no_values = codes "0" ∷ codes "no" ∷ codes "n" ∷ codes "false" ∷ codes "f" ∷ codes "off" ∷ []
-
--- another value is ignored
+-- a value that isn't a boolean is ignored (systemd.syntax(7))
 abbrev pub truth_after : Bool → List ℕ → Bool
-truth_after before value =
-    if list_any (str_eq_ignore_ascii_case value) yes_values then true else
-    if list_any (str_eq_ignore_ascii_case value) no_values then false else
-    before
+truth_after before value = unwrap_or (boolean value) before
 
 -- ---- one line
 

@@ -1,15 +1,14 @@
 //! Whether a service has a command to start, or may do without one (systemd.service(5)).
 
 ghost use Rattle.std.specs.Prelude.{◌≡◌, ◌==◌, not, true, IfOk, length, map};
-ghost use Rattle.std.specs.List.{list_any};
-ghost use Rattle.std.specs.Str.{str_eq_ignore_ascii_case};
 ghost use Rattle.plan_texts.specs.WholeLines.{whole_text};
-ghost use Rattle.plan_services.specs.Commands.{action_after, after_file, after_files, after_line_by, after_lines, after_service_setting, after_setting, after_unit_setting, can_start, commands_of, has_value, is_idle, is_oneshot, no_commands, no_values, section_after, section_of, truth_after, type_after, yes_values};
+ghost use Rattle.plan_services.specs.Commands.{action_after, after_file, after_files, after_line_by, after_lines, after_service_setting, after_setting, after_unit_setting, can_start, commands_of, has_value, is_idle, is_oneshot, no_commands, section_after, section_of, truth_after, type_after};
 ghost use Rattle.plan_services.specs.Texts.{lines_at};
 ghost use Rattle.plan_services.specs.declared.commands.Section.TheVariants as section;
 ghost use Rattle.plan_units.specs.Settings.{section_name, setting_of};
 
 use crate::texts::lines_at;
+use plan_spans::boolean;
 use plan_texts::whole_lines::{WholeLine, trimmed};
 use plan_tree::Tree;
 use plan_units::{Entry, Unit, UnitDir, drop_ins, section_name, setting_of};
@@ -288,42 +287,5 @@ fn action_after(before: bool, value: &str) -> bool
 fn truth_after(before: bool, value: &str) -> bool
     ensures { result ≡ truth_after before value.now }
 {
-    if is_yes(value) {
-        return true;
-    }
-    if is_no(value) {
-        return false;
-    }
-    before
-}
-
-// Returns whether a value is true.
-fn is_yes(value: &str) -> bool
-    ensures { result ≡ list_any (str_eq_ignore_ascii_case value.now) yes_values }
-{
-    is_like(value, "1")
-        || is_like(value, "yes")
-        || is_like(value, "y")
-        || is_like(value, "true")
-        || is_like(value, "t")
-        || is_like(value, "on")
-}
-
-// Returns whether a value is false.
-fn is_no(value: &str) -> bool
-    ensures { result ≡ list_any (str_eq_ignore_ascii_case value.now) no_values }
-{
-    is_like(value, "0")
-        || is_like(value, "no")
-        || is_like(value, "n")
-        || is_like(value, "false")
-        || is_like(value, "f")
-        || is_like(value, "off")
-}
-
-// Returns whether two texts differ only in the case of ASCII letters.
-fn is_like(one: &str, other: &str) -> bool
-    ensures { result ≡ str_eq_ignore_ascii_case one.now other.now }
-{
-    one.eq_ignore_ascii_case(other)
+    boolean(value).unwrap_or(before)
 }

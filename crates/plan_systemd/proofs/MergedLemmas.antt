@@ -37,7 +37,8 @@ have_no_clock seconds [] have = tt
 have_no_clock seconds (event ∷ events) (own, rest) = (own.0, have_no_clock seconds events rest)
 
 has_by_clock :
-    (named : Bool) (seconds : SetOfValues) (event : Calendar) → HasSeconds seconds event → HasSeconds seconds (if named then event else record event { clock = [] })
+    (named : Bool) (seconds : SetOfValues) (event : Calendar) → HasSeconds seconds event →
+    HasSeconds seconds (if named then event else record event { clock = [] })
 has_by_clock true seconds event own = own
 has_by_clock false seconds event own = (refl, own.1)
 

@@ -1,12 +1,13 @@
 -- What systemd 252 reads otherwise in the file of a timer that agenda accepts (systemd.syntax(7), systemd.timer(5)).
-use Rattle.std.specs.Prelude.{ℕ, Bool, true, not, ◌&&◌, ◌||◌, ◌==◌, nat_eq, nat_lt, if◌then◌else◌, List, [], ◌∷◌, length, codes, Option, Some, None, is_some}
+use Rattle.std.specs.Prelude.{ℕ, Bool, true, not, ◌&&◌, ◌||◌, ◌==◌, nat_eq, nat_lt, if◌then◌else◌, List, [], ◌∷◌, length, codes, Option, Some, None, is_none, is_some}
 use Rattle.std.specs.List.{list_any, starts_with}
-use Rattle.std.specs.Str.{byte, bytes_eq, str_eq_ignore_ascii_case}
+use Rattle.std.specs.Str.{byte, bytes_eq}
 use Rattle.std.specs.Str.Lines.{strip_carriage_return}
 use Rattle.plan_texts.specs.Text.{begins_with}
+use Rattle.plan_spans.specs.Booleans.{boolean}
 use Rattle.plan_spans.specs.Spans.{time_span}
 use Rattle.plan_rules.specs.Timer.{monotonic_keys, section_name}
-use Rattle.plan_rules.specs.TimerDelays.{Setting}
+use Rattle.plan_rules.specs.TimerOptions.{Setting, persistent_key}
 use Rattle.plan_units.specs.Validity.{is_valid_name}
 
 -- ---- lines
@@ -65,16 +66,6 @@ is_bad_unit setting =
 abbrev pub is_elapsing_span : Setting → Bool
 is_elapsing_span setting = list_any (bytes_eq setting.0) monotonic_keys && is_some (time_span setting.1)
 
--- the values that are true and false, whatever their case (parse_boolean of systemd 252)
-abbrev pub true_values : List (List ℕ)
-true_values = codes "1" ∷ codes "yes" ∷ codes "y" ∷ codes "true" ∷ codes "t" ∷ codes "on" ∷ []
-
-abbrev pub false_values : List (List ℕ)
-false_values = codes "0" ∷ codes "no" ∷ codes "n" ∷ codes "false" ∷ codes "f" ∷ codes "off" ∷ []
-
--- a setting sets this key to true, or to false; any other value is ignored (config_parse_bool of systemd 252)
-abbrev pub turns_on : (key : List ℕ) → Setting → Bool
-turns_on key setting = bytes_eq setting.0 key && list_any (str_eq_ignore_ascii_case setting.1) true_values
-
-abbrev pub turns_off : (key : List ℕ) → Setting → Bool
-turns_off key setting = bytes_eq setting.0 key && list_any (str_eq_ignore_ascii_case setting.1) false_values
+-- a setting has no boolean where the timer needs one (systemd.timer(5), `Persistent=`; config_parse_bool of systemd 252)
+abbrev pub is_bad_boolean : Setting → Bool
+is_bad_boolean setting = bytes_eq setting.0 persistent_key && is_none (boolean setting.1)

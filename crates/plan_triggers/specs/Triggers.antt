@@ -1,11 +1,12 @@
 -- Whether anything starts a timer (systemd.timer(5), timer_verify of systemd 252).
-use Rattle.std.specs.Prelude.{ℕ, ◌-◌, Bool, false, not, ◌&&◌, ◌||◌, ◌==◌, if◌then◌else◌, true, List, length, drop, fold, codes, is_none, Option, Some, None}
+use Rattle.std.specs.Prelude.{ℕ, ◌-◌, Bool, false, not, ◌&&◌, ◌||◌, ◌==◌, if◌then◌else◌, List, length, drop, fold, codes, is_none, Option, Some, None}
 use Rattle.std.specs.List.{list_any, suffix_len}
 use Rattle.std.specs.Str.{bytes_eq}
 use Rattle.plan_rules.specs.Timer.{is_reset}
-use Rattle.plan_rules.specs.TimerDelays.{Setting}
+use Rattle.plan_rules.specs.TimerOptions.{Setting}
+use Rattle.plan_spans.specs.Booleans.{boolean_after}
 use Rattle.plan_systemd.specs.Rejection.{rejection_of}
-use Rattle.plan_triggers.specs.TimerFile.{is_elapsing_span, turns_off, turns_on}
+use Rattle.plan_triggers.specs.TimerFile.{is_elapsing_span}
 
 -- a setting adds an event
 abbrev pub is_event : Setting → Bool
@@ -23,13 +24,9 @@ is_trigger setting = is_accepted_event setting || is_elapsing_span setting
 abbrev pub after_resets : List Setting → List Setting
 after_resets settings = drop (length settings - suffix_len (λ setting. not (is_reset setting)) settings) settings
 
--- a switch after one more setting of a timer; a value that is no boolean changes nothing
-abbrev pub switched : (key : List ℕ) → Bool → Setting → Bool
-switched key before setting = if turns_on key setting then true else (if turns_off key setting then false else before)
-
 -- the last boolean value of a key is true
 abbrev pub is_on : (key : List ℕ) → List Setting → Bool
-is_on key settings = fold (switched key) false settings
+is_on key settings = fold (boolean_after key) false settings
 
 -- something starts the timer: a trigger, or a change of the clock or of the time zone
 abbrev pub has_trigger : List Setting → Bool

@@ -9,7 +9,5 @@ mod timer_file;
 mod triggers;
 
 pub use setting::TimerSetting;
-pub use timer_file::{
-    has_bad_header, is_bad_unit, is_elapsing_span, line_note, turns_off, turns_on,
-};
+pub use timer_file::{has_bad_header, is_bad_boolean, is_bad_unit, is_elapsing_span, line_note};
 pub use triggers::{has_trigger, rejected_whole};

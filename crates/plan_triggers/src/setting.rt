@@ -12,7 +12,7 @@ pub struct TimerSetting<'a> {
 }
 
 impl<'a> Model for TimerSetting<'a> {
-    ghost use Rattle.plan_rules.specs.TimerDelays.{Setting};
+    ghost use Rattle.plan_rules.specs.TimerOptions.{Setting};
 
     ghost Value = { Setting };
 

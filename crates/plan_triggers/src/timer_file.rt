@@ -2,12 +2,11 @@
 
 ghost use Rattle.std.specs.Prelude.{◌≡◌, map, option_map};
 ghost use Rattle.std.specs.List.{list_any};
-ghost use Rattle.std.specs.Str.{str_eq_ignore_ascii_case};
 ghost use Rattle.plan_rules.specs.TimerEntries.{shown_line};
-ghost use Rattle.plan_triggers.specs.TimerFile.{false_values, is_bad_unit, line_note, has_bad_header, is_bad_header, is_cut, is_elapsing_span, is_ignored_unit, is_line_end, is_unsafe, true_values, turns_off, turns_on};
+ghost use Rattle.plan_triggers.specs.TimerFile.{is_bad_boolean, is_bad_unit, line_note, has_bad_header, is_bad_header, is_cut, is_elapsing_span, is_ignored_unit, is_line_end, is_unsafe};
 
 use plan_rules::is_monotonic_key;
-use plan_spans::time_span;
+use plan_spans::{boolean, time_span};
 use plan_texts::whole_lines::{WholeLine, trimmed};
 use plan_units::is_valid_name;
 
@@ -84,42 +83,11 @@ pub fn is_elapsing_span(key: &str, value: &str) -> bool
     is_monotonic_key(key) && time_span(value.as_bytes()).is_some()
 }
 
-/// Returns whether a setting, of a name and a value, sets this key to true.
-pub fn turns_on(key: &str, name: &str, value: &str) -> bool
-    ensures { result ≡ turns_on key.now (name.now, value.now) }
+/// Returns whether a setting has no boolean where a timer needs one (systemd.timer(5), `Persistent=`).
+pub fn is_bad_boolean(key: &str, value: &str) -> bool
+    ensures { result ≡ is_bad_boolean (key.now, value.now) }
 {
-    name == key && is_true(value)
-}
-
-/// Returns whether a setting, of a name and a value, sets this key to false.
-pub fn turns_off(key: &str, name: &str, value: &str) -> bool
-    ensures { result ≡ turns_off key.now (name.now, value.now) }
-{
-    name == key && is_false(value)
-}
-
-// Returns whether a value is true.
-fn is_true(value: &str) -> bool
-    ensures { result ≡ list_any (str_eq_ignore_ascii_case value.now) true_values }
-{
-    value.eq_ignore_ascii_case("1")
-        || value.eq_ignore_ascii_case("yes")
-        || value.eq_ignore_ascii_case("y")
-        || value.eq_ignore_ascii_case("true")
-        || value.eq_ignore_ascii_case("t")
-        || value.eq_ignore_ascii_case("on")
-}
-
-// Returns whether a value is false.
-fn is_false(value: &str) -> bool
-    ensures { result ≡ list_any (str_eq_ignore_ascii_case value.now) false_values }
-{
-    value.eq_ignore_ascii_case("0")
-        || value.eq_ignore_ascii_case("no")
-        || value.eq_ignore_ascii_case("n")
-        || value.eq_ignore_ascii_case("false")
-        || value.eq_ignore_ascii_case("f")
-        || value.eq_ignore_ascii_case("off")
+    key == "Persistent" && boolean(value).is_none()
 }
 
 /// Returns whether a setting names a unit that can't be one (systemd.timer(5), `Unit=`).

@@ -3,11 +3,12 @@
 ghost use Rattle.std.specs.Prelude.{◌≡◌, IfOk, not, option_map};
 ghost use Rattle.std.specs.List.{list_any, suffix_len};
 ghost use Rattle.plan_rules.specs.Timer.{is_reset};
-ghost use Rattle.plan_triggers.specs.Triggers.{after_resets, has_trigger, is_accepted_event, is_event, is_on, is_trigger, rejected_whole, switched};
+ghost use Rattle.plan_triggers.specs.Triggers.{after_resets, has_trigger, is_accepted_event, is_event, is_on, is_trigger, rejected_whole};
 
 use crate::setting::TimerSetting;
-use crate::timer_file::{is_elapsing_span, turns_off, turns_on};
+use crate::timer_file::is_elapsing_span;
 use plan_rules::is_reset;
+use plan_spans::boolean_after;
 use plan_systemd::rejection;
 use std::alloc::{AllocError, Global};
 
@@ -31,19 +32,9 @@ pub fn has_trigger(alloc: Global, settings: &[TimerSetting<'_>]) -> Result<bool,
 fn is_on(key: &str, settings: &[TimerSetting<'_>]) -> bool
     ensures { result ≡ is_on key.now settings.now }
 {
-    settings
-        .iter()
-        .fold(false, |before, setting| switched(key, before, setting))
-}
-
-// Returns a switch after one more setting.
-fn switched(key: &str, before: bool, setting: &TimerSetting<'_>) -> bool
-    ensures { result ≡ switched key.now before setting.now }
-{
-    if turns_on(key, setting.key(), setting.value()) {
-        return true;
-    }
-    before && !turns_off(key, setting.key(), setting.value())
+    settings.iter().fold(false, |before, setting| {
+        boolean_after(key, before, setting.key(), setting.value())
+    })
 }
 
 // Returns the settings after the last one that empties the list of triggers.

@@ -2,18 +2,20 @@
 
 ghost use Rattle.std.specs.Prelude.{◌≡◌, ◌++◌, IfOk, OnOk};
 ghost use Rattle.std.specs.String.{string_bytes};
-ghost use Rattle.plan_words.specs.Sentence.{days_words, sentence_of, time_words, void_text, zone_text};
+ghost use Rattle.plan_words.specs.Sentence.{sentence_of, void_text, zone_text};
 ghost use Rattle.plan_words.specs.Tree.{Scheduled};
-ghost use Rattle.plan_words.specs.View.{days_of, months_of, schedule_of, some_values_of, time_of, tree_of};
+ghost use Rattle.plan_words.specs.View.{schedule_of, tree_of};
 
 use crate::days::say_days;
 use crate::existing::{is_void, lacks};
 use crate::spelling::text_of_words;
 use crate::time::say_time;
 use crate::tree::{Description, Schedule};
-use crate::words::Word;
 use plan_texts::Text;
 use std::alloc::{AllocError, Global};
+
+/// The number of words that most sentences don't exceed.
+const FEW_WORDS: usize = 32;
 
 /// Returns the sentence of a description: what the rule means, in English.
 ///
@@ -34,21 +36,6 @@ pub fn sentence(alloc: Global, description: &Description) -> Result<String, Allo
         }
         Description::Scheduled(schedule) => sentence_of_schedule(alloc, schedule),
     }
-}
-
-// Appends the words of a schedule.
-fn say_schedule(lacks: bool, schedule: &Schedule, out: &mut Vec<Word>) -> Result<(), AllocError>
-    ensures { OnOk result (out.new.items ≡ out.old.items ++ (time_words (time_of schedule.now.time)
-        ++ days_words lacks (days_of schedule.now.days) (months_of schedule.now.months) (some_values_of schedule.now.years))) }
-{
-    say_time(&schedule.time, out)?;
-    say_days(
-        lacks,
-        &schedule.days,
-        &schedule.months,
-        &schedule.years,
-        out,
-    )
 }
 
 // Appends the zone that a rule names.
@@ -78,8 +65,15 @@ fn sentence_of_schedule(alloc: Global, schedule: &Schedule) -> Result<String, Al
     ensures { IfOk result (λ text. string_bytes text ≡ sentence_of (Scheduled (schedule_of schedule.now))) }
 {
     let void = is_void(schedule);
-    let mut words = Vec::new(alloc);
-    say_schedule(lacks(schedule, void), schedule, &mut words)?;
+    let mut words = Vec::with_capacity(alloc, FEW_WORDS)?;
+    say_time(&schedule.time, &mut words)?;
+    say_days(
+        lacks(schedule, void),
+        &schedule.days,
+        &schedule.months,
+        &schedule.years,
+        &mut words,
+    )?;
     let mut text = text_of_words(alloc, words.as_slice())?;
     push_zone(&mut text, &schedule.zone)?;
     push_void(&mut text, void)?;

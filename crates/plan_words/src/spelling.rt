@@ -9,6 +9,9 @@ use crate::words::{Keyword, Word};
 use itoa::Buffer;
 use std::alloc::{AllocError, Global};
 
+/// The number of bytes that most words don't exceed, with the blank before them.
+const LENGTH_OF_WORD: usize = 6;
+
 /// Returns the text of words, with a blank between two words, but none before a comma.
 ///
 /// # Errors
@@ -17,7 +20,7 @@ use std::alloc::{AllocError, Global};
 pub fn text_of_words(alloc: Global, words: &[Word]) -> Result<String, AllocError>
     ensures { IfOk result (λ text. string_bytes text ≡ text_of_words words.now) }
 {
-    let mut text = String::new(alloc);
+    let mut text = String::with_capacity(alloc, LENGTH_OF_WORD.saturating_mul(words.len()))?;
     if let Some((first, rest)) = words.split_first() {
         push_word(&mut text, *first)?;
         for word in rest {

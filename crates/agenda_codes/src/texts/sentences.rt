@@ -3,6 +3,9 @@
 pub(crate) const BACKWARDS: &str =
     "A range in a rule, or the span of --since and --upto, ends before it starts.";
 
+pub(crate) const BAD_BOOLEAN: &str =
+    "The value of 'Persistent=' isn't a boolean, so systemd ignores it.";
+
 pub(crate) const BAD_COUNT: &str = "The number of --count isn't 1 to 1,000.";
 
 pub(crate) const BAD_DELAY: &str =

@@ -1,5 +1,16 @@
 //! What is said about warnings.
 
+pub(crate) const BAD_BOOLEAN: &str = "\
+The value of 'Persistent=' isn't a boolean, so systemd ignores it, also if it is
+empty. The last boolean counts. If there is none, the timer doesn't make up for
+starts that it missed. Write 'yes' or 'no'.
+
+Before:
+    Persistent=enabled
+After:
+    Persistent=yes
+";
+
 pub(crate) const BAD_DELAY: &str = "\
 The value of 'RandomizedDelaySec=' or 'AccuracySec=' isn't a time span, so
 systemd ignores it. The last valid value counts. If there is none, the random

@@ -6,7 +6,7 @@ use Rattle.clap.specs.Faults.{fault_of}
 use Rattle.clap.specs.Kinds.{IsAmong}
 use Rattle.clap.specs.Words.{App, app_of, is_simple, is_simple_and_free, kind_of, subcommand_of, subcommand_rows_of}
 use Rattle.clap.specs.declared.error.kind.ErrorKind.TheVariants as kind
-use Rattle.agenda_arguments.specs.Command.{agenda}
+use Rattle.agenda_options.specs.Command.{agenda}
 use Rattle.agenda_arguments.specs.Arguments.{asked_by_agenda, asked_by_subcommand}
 use Rattle.agenda_arguments.proofs.FaultLemmas.{agenda_alike, agenda_is_free, agenda_is_simple, rejected}
 use Rattle.agenda_arguments.proofs.arguments.asked_by_agenda.Goals as goal

@@ -3,10 +3,10 @@ use Rattle.std.proofs.Common.{◌≡◌, ◌+◌, ◌++◌, ◌||◌, [], append
 use Rattle.std.proofs.lemmas.List.{drop_all}
 use Rattle.std.specs.List.{cons_option}
 use Rattle.plan_rules.specs.Timer.{effects_from, has_timer, is_reset, settings_from, timer_setting}
-use Rattle.plan_rules.specs.TimerDelays.{delays_with}
+use Rattle.plan_rules.specs.TimerOptions.{options_with}
 use Rattle.plan_rules.specs.TimerEntries.{EventCount, TimerState, count_from, draft_from, draft_of, shown_line, state_after, steps_from}
 use Rattle.plan_rules.proofs.TimerEntryLemmas.{count_step, lines_more, section_step}
-use Rattle.plan_rules.proofs.TimerLemmas.{delays_front}
+use Rattle.plan_rules.proofs.TimerLemmas.{options_front}
 use Rattle.plan_check.specs.declared.settings.Standing.{Standing}
 use Rattle.plan_check.specs.Settings.{delay_after, is_span, standing_after}
 use Rattle.plan_check.specs.Timers.{lines_findings}
@@ -24,7 +24,7 @@ loop-line-init c =
       section = ap (λ (s : TimerState). s.found || has_timer all) state;
       count = ap (λ (s : TimerState). count_from s.count (effects_from s.inside all)) state;
       monotonic = λ i. stands_with is_span is_reset (stood i).monotonic (settings i);
-      delays = λ i. delays_with (stood i).delays (settings i);
+      options = λ i. options_with (stood i).options (settings i);
       draft = λ i. draft_from (c.new-draft.ensures i)
           (steps_from (state i).zones (state i).count (effects_from (state i).inside all));
       settings = λ i. c.new-settings.ensures.items i ++ settings i;
@@ -54,8 +54,8 @@ loop-line-preserved c =
           (ap (λ left. count_from old.count (effects_from old.inside left)) next ∙ so_far.count);
       monotonic = one_more (λ stands s left. stands_with is_span is_reset stands (settings_from s.inside left)) old line more next
           (ap (λ (s : Standing). s.monotonic) stands) new (stands_front is_span is_reset stood.monotonic setting settings) so_far.monotonic;
-      delays = one_more (λ delays s left. delays_with delays (settings_from s.inside left)) old line more next
-          (ap (λ (s : Standing). s.delays) stands) new (delays_front stood.delays setting settings) so_far.delays;
+      options = one_more (λ options s left. options_with options (settings_from s.inside left)) old line more next
+          (ap (λ (s : Standing). s.options) stands) new (options_front stood.options setting settings) so_far.options;
       settings = one_more (λ kept s left. kept ++ settings_from s.inside left) old line more next
           (c.in_ok-keep_setting.ensures ∙ ap (λ s. c.loop-line.settings.items ++ cons_option s []) c.setting-setting.ensures) new
           (kept_front c.loop-line.settings.items setting settings) so_far.settings;
@@ -78,7 +78,7 @@ returns c =
     let held = ap (λ (count : EventCount). count.held) (ap (λ left. count_from now.count (effects_from now.inside left)) none ∙ so_far.count) in
     let monotonic = sym (stands_last is_span is_reset stood.monotonic)
     ∙ ap (λ left. stands_with is_span is_reset stood.monotonic (settings_from now.inside left)) none ∙ so_far.monotonic in
-    let delays = ap (λ left. delays_with stood.delays (settings_from now.inside left)) none ∙ so_far.delays in
+    let options = ap (λ left. options_with stood.options (settings_from now.inside left)) none ∙ so_far.options in
     let delay = ap (λ left. delay_with c.loop-line.delay.now (settings_from now.inside left)) none ∙ so_far.delay in
     let settings = sym (append-nil c.loop-line.settings.items)
     ∙ ap (λ left. c.loop-line.settings.items ++ settings_from now.inside left) none ∙ so_far.settings in
@@ -90,7 +90,7 @@ returns c =
         has_section = section i;
         held = held i;
         monotonic = monotonic i;
-        delays = delays i;
+        options = options i;
         delay = delay i;
         settings = settings i;
       };

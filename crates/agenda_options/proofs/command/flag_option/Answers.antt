@@ -1,0 +1,11 @@
+-- Each call sets one field of the argument.
+use Rattle.std.proofs.Common.{◌∙◌, ap, Some}
+use Rattle.clap.specs.Words.{Rule, rule_of}
+use Rattle.clap.specs.declared.builder.action.ArgAction.TheVariants.{SetTrue}
+use Rattle.agenda_options.proofs.command.flag_option.Goals as goal
+
+pub returns-clause-rule : goal.returns-clause-rule
+returns-clause-rule c =
+    ap rule_of c.action.ensures ∙ ap (λ (r : Rule). record r { action = Some SetTrue })
+    (ap rule_of c.help.ensures ∙ (ap rule_of c.long.ensures
+    ∙ ap (λ (r : Rule). record r { long = Some c.args.name.now }) c.new.ensures.rule))

@@ -1,0 +1,293 @@
+//! Describes the command line of `agenda machine`, whose arguments begin with `machine`.
+ghost use Rattle.std.specs.Prelude.{◌≡◌, IfOk, false};
+ghost use Rattle.clap.specs.Words.{app_of};
+ghost use Rattle.clap.specs.declared.builder.command.Command.TheViews.{out-Command};
+ghost use Rattle.agenda_options.specs.Command.{machine, machine_alone, machine_check, machine_describe, machine_next, machine_plan, machine_quiet, machine_sources};
+ghost use Rattle.agenda_options.specs.Command.{machine_upcoming, with_machine_span};
+
+use super::subcommands::Subcommand;
+use super::{
+    ALLOW, CommandOption, DENY, JSON, PLANNERS, ROOM, argument, help, new_subcommand, with_alias,
+    with_argument, with_arguments, with_subcommands,
+};
+use clap::Command;
+use std::alloc::{AllocError, Global};
+
+// The options that name a machine.
+const ROOT: CommandOption<'static> = CommandOption::Preset("root", "DIR", "/", help::ROOT);
+
+const ALL: CommandOption<'static> = CommandOption::Flag("all", help::ALL);
+
+// The options for its time zone.
+const ZONE: CommandOption<'static> = CommandOption::Text("zone", "ZONE", help::MACHINE_ZONE);
+
+const UTC: CommandOption<'static> = CommandOption::Flag("utc", help::UTC);
+
+// The time after which starts are listed.
+const AFTER: CommandOption<'static> = CommandOption::Preset(
+    "after",
+    "TIME",
+    "now",
+    help::MACHINE_AFTER,
+);
+
+// The jobs that are left out of the answer.
+const EXCEPT: CommandOption<'static> = CommandOption::Repeated("except", "JOB", help::EXCEPT);
+
+// Whether an error in a file stops the answer.
+const STRICT: CommandOption<'static> = CommandOption::Flag("strict", help::STRICT);
+
+// The other forms of an answer.
+const TABLE: CommandOption<'static> = CommandOption::Flag("table", help::TABLE);
+
+const TEXT: CommandOption<'static> = CommandOption::Flag("text", help::TEXT);
+
+// The maximum number of starts.
+const LIMIT: CommandOption<'static> = CommandOption::Number("limit", "1000000", help::LIMIT);
+
+/// Returns the command line of `agenda machine`.
+///
+/// # Errors
+///
+/// An allocation failed.
+#[tactic(auto, unfolding(crate::specs::Command::machine))]
+pub fn machine_command<'a>(alloc: Global) -> Result<Command<'a>, AllocError>
+    ensures { IfOk result (λ command. app_of command ≡ machine) }
+{
+    let questions = [
+        Subcommand::MachineUpcoming,
+        Subcommand::MachinePlan,
+        Subcommand::MachineQuiet,
+        Subcommand::MachineCheck,
+        Subcommand::MachineSources,
+        Subcommand::MachineNext,
+        Subcommand::MachineDescribe,
+    ];
+    with_subcommands(alloc, machine_alone(alloc)?, &questions)
+}
+
+// Returns the command line without its questions.
+fn machine_alone<'a>(alloc: Global) -> Result<Command<'a>, AllocError>
+    ensures { IfOk result (λ command. app_of command ≡ machine_alone) }
+{
+    Command::new(alloc, "machine")
+        .about(help::MACHINE)
+        .after_help(help::AFTER_MACHINE)
+        .override_usage(help::MACHINE_USAGE)
+        .subcommand_required(true)
+        .disable_help_subcommand(true)
+        .bin_name("agenda machine")
+}
+
+/// Returns the command line of `agenda machine sources`.
+///
+/// # Errors
+///
+/// An allocation failed.
+#[tactic(auto, unfolding(crate::specs::Command::machine_sources, crate::specs::Command::with_machine))]
+pub(super) fn machine_sources_command<'a>(alloc: Global) -> Result<Command<'a>, AllocError>
+    ensures app { IfOk result (λ command. app_of command ≡ machine_sources) }
+    ensures local { IfOk result (λ command. (out-Command command).has_globals ≡ false) }
+{
+    let command = new_subcommand(
+        alloc,
+        "sources",
+        help::MACHINE_SOURCES,
+        help::AFTER_MACHINE_SOURCES,
+    );
+    with_arguments(alloc, command, &[ROOT, ALL, JSON])
+}
+
+/// Returns the command line of `agenda machine check`.
+///
+/// # Errors
+///
+/// An allocation failed.
+#[tactic(auto, unfolding(crate::specs::Command::machine_check, crate::specs::Command::with_machine))]
+pub(super) fn machine_check_command<'a>(alloc: Global) -> Result<Command<'a>, AllocError>
+    ensures app { IfOk result (λ command. app_of command ≡ machine_check) }
+    ensures local { IfOk result (λ command. (out-Command command).has_globals ≡ false) }
+{
+    let command = new_subcommand(
+        alloc,
+        "check",
+        help::MACHINE_CHECK,
+        help::AFTER_MACHINE_CHECK,
+    );
+    with_arguments(alloc, command, &[ROOT, ALL, ZONE, UTC, DENY, ALLOW, JSON])
+}
+
+/// Returns the command line of `agenda machine upcoming`.
+///
+/// # Errors
+///
+/// An allocation failed.
+#[tactic(auto, unfolding(crate::specs::Command::machine_upcoming, crate::specs::Command::with_machine))]
+pub(super) fn machine_upcoming_command<'a>(alloc: Global) -> Result<Command<'a>, AllocError>
+    ensures app { IfOk result (λ command. app_of command ≡ machine_upcoming) }
+    ensures local { IfOk result (λ command. (out-Command command).has_globals ≡ false) }
+{
+    let command = new_subcommand(
+        alloc,
+        "upcoming",
+        help::MACHINE_UPCOMING,
+        help::AFTER_MACHINE_UPCOMING,
+    );
+    with_arguments(
+        alloc,
+        command,
+        &[
+            ROOT,
+            ALL,
+            AFTER,
+            ZONE,
+            UTC,
+            EXCEPT,
+            CommandOption::Flag("delays", help::DELAYS),
+            STRICT,
+            TABLE,
+            TEXT,
+            JSON,
+        ],
+    )
+}
+
+/// Returns the command line of `agenda machine plan`.
+///
+/// # Errors
+///
+/// An allocation failed.
+#[tactic(auto, unfolding(crate::specs::Command::machine_plan))]
+pub(super) fn machine_plan_command<'a>(alloc: Global) -> Result<Command<'a>, AllocError>
+    ensures app { IfOk result (λ command. app_of command ≡ machine_plan) }
+    ensures local { IfOk result (λ command. (out-Command command).has_globals ≡ false) }
+{
+    let command = new_subcommand(alloc, "plan", help::MACHINE_PLAN, help::AFTER_MACHINE_PLAN);
+    let command = with_machine_span(alloc, command)?;
+    with_arguments(
+        alloc,
+        command,
+        &[
+            ZONE,
+            UTC,
+            EXCEPT,
+            CommandOption::Flag("delays", help::DELAYS),
+            STRICT,
+            TABLE,
+            TEXT,
+            JSON,
+            LIMIT,
+            PLANNERS,
+            ROOM,
+        ],
+    )
+}
+
+/// Returns the command line of `agenda machine quiet`.
+///
+/// # Errors
+///
+/// An allocation failed.
+#[tactic(auto, unfolding(crate::specs::Command::machine_quiet))]
+pub(super) fn machine_quiet_command<'a>(alloc: Global) -> Result<Command<'a>, AllocError>
+    ensures app { IfOk result (λ command. app_of command ≡ machine_quiet) }
+    ensures local { IfOk result (λ command. (out-Command command).has_globals ≡ false) }
+{
+    let command = new_subcommand(
+        alloc,
+        "quiet",
+        help::MACHINE_QUIET,
+        help::AFTER_MACHINE_QUIET,
+    );
+    let command = with_machine_span(alloc, command)?;
+    with_arguments(
+        alloc,
+        command,
+        &[
+            CommandOption::Preset("least", "LENGTH", "30min", help::MACHINE_LEAST),
+            ZONE,
+            UTC,
+            EXCEPT,
+            CommandOption::Flag("nominal", help::NOMINAL),
+            STRICT,
+            TABLE,
+            TEXT,
+            JSON,
+            LIMIT,
+            PLANNERS,
+            ROOM,
+        ],
+    )
+}
+
+/// Returns the command line of `agenda machine next`.
+///
+/// # Errors
+///
+/// An allocation failed.
+#[tactic(auto, unfolding(crate::specs::Command::machine_next))]
+pub(super) fn machine_next_command<'a>(alloc: Global) -> Result<Command<'a>, AllocError>
+    ensures app { IfOk result (λ command. app_of command ≡ machine_next) }
+    ensures local { IfOk result (λ command. (out-Command command).has_globals ≡ false) }
+{
+    let command = new_subcommand(alloc, "next", help::MACHINE_NEXT, help::AFTER_MACHINE_NEXT);
+    with_arguments(
+        alloc,
+        command,
+        &[
+            CommandOption::Argument("rule", "RULE", help::RULE),
+            AFTER,
+            CommandOption::Number("count", "5", help::COUNT),
+            ZONE,
+            UTC,
+            TABLE,
+            TEXT,
+            JSON,
+        ],
+    )
+}
+
+/// Returns the command line of `agenda machine describe`.
+///
+/// # Errors
+///
+/// An allocation failed.
+#[tactic(auto, unfolding(crate::specs::Command::machine_describe, crate::specs::Command::with_machine))]
+pub(super) fn machine_describe_command<'a>(alloc: Global) -> Result<Command<'a>, AllocError>
+    ensures app { IfOk result (λ command. app_of command ≡ machine_describe) }
+    ensures local { IfOk result (λ command. (out-Command command).has_globals ≡ false) }
+{
+    let command = new_subcommand(
+        alloc,
+        "describe",
+        help::MACHINE_DESCRIBE,
+        help::AFTER_MACHINE_DESCRIBE,
+    );
+    let command = with_arguments(
+        alloc,
+        command,
+        &[ROOT, ALL, ZONE, UTC, EXCEPT, STRICT, TABLE, TEXT, JSON],
+    )?;
+    with_argument(command, argument(alloc, "rule", "RULE", help::RULE))
+}
+
+// Adds what names a machine, and the span of a plan of it.
+#[tactic(auto, unfolding(crate::specs::Command::with_machine_span, crate::specs::Command::with_machine))]
+fn with_machine_span<'a>(alloc: Global, command: Command<'a>) -> Result<Command<'a>, AllocError>
+    requires local { (out-Command command).has_globals ≡ false }
+    ensures app { IfOk result (λ new. app_of new ≡ with_machine_span (app_of command.entry)) }
+    ensures local { IfOk result (λ new. (out-Command new).has_globals ≡ false) }
+{
+    let command = with_arguments(
+        alloc,
+        command,
+        &[
+            ROOT,
+            ALL,
+            CommandOption::Preset("since", "TIME", "now", help::MACHINE_SINCE),
+        ],
+    )?;
+    let until = CommandOption::Preset("until", "TIME", "+24h", help::MACHINE_UNTIL).to_clap(alloc);
+    let until = with_alias(until, "upto")?;
+    with_argument(command, until)
+}
