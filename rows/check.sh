@@ -604,6 +604,18 @@ jobs|[Timer]\nOnCalendar=daily\nAccuracySec=x\n|: error [BadTimerName];:3: warni
 a.timer|[Timer]\nOnCalendar=daily\nAccuracySec=x\n\xff\n|: error [NotUtf8]
 ROWS
 
+# Values of Persistent= that are no booleans, also an empty one; it comes after BadDelay. What systemd's parse_boolean reads is one,
+# whatever its case.
+check_texts <<'ROWS'
+a.timer|[Timer]\nOnCalendar=daily\nPersistent=enabled\n|:3: warning [BadBoolean]
+a.timer|[Timer]\nOnCalendar=daily\nPersistent=\nPersistent=2\nPersistent=yes no\nPersistent=tru\n|:3: warning [BadBoolean];:4: warning [BadBoolean];:5: warning [BadBoolean];:6: warning [BadBoolean]
+a.timer|[Timer]\nOnCalendar=daily\nPersistent=1\nPersistent=yes\nPersistent=y\nPersistent=true\nPersistent=t\nPersistent=on\n|
+a.timer|[Timer]\nOnCalendar=daily\nPersistent=0\nPersistent=no\nPersistent=n\nPersistent=false\nPersistent=f\nPersistent=off\n|
+a.timer|[Timer]\nOnCalendar=daily\nPersistent = YES \nPersistent=True\nPersistent=oFf\nPersistent=N\n|
+a.timer|[Unit]\nPersistent=x\n[Timer]\nOnCalendar=daily\npersistent=x\n[Install]\nPersistent=x\n[Timer]\nPersistent=%i\n|:5: warning [UnknownKey];:9: warning [BadBoolean]
+a.timer|[Timer]\nOnCalendar=daily\nAccuracySec=x\nPersistent=x\nUnit=x\n|:3: warning [BadDelay];:4: warning [BadBoolean];:5: warning [UnitIgnored]
+ROWS
+
 # Events before an empty value have their warnings. rows/check-skips.sh has when SkippedStarts is reported.
 check_texts <<'ROWS'
 a.timer|[Timer]\nOnCalendar=*:0/25\nOnCalendar=\nOnCalendar=daily\n|:2: warning [SkippedStarts]

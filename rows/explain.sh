@@ -167,6 +167,7 @@ explain_without_output() {
 
 explain_all_codes <<'ROWS'
 Backwards
+BadBoolean
 BadCount
 BadDelay
 BadForm
@@ -247,6 +248,7 @@ explain_without_output
 # what each example shows
 explain_examples <<'ROWS'
 Backwards crontab|0 22-4 * * * backup|0 22-23,0-4 * * * backup
+BadBoolean setting|Persistent=enabled|Persistent=yes
 BadDelay setting|AccuracySec=5mins|AccuracySec=5min
 BadForm moment|agenda upcoming --after '2024-01-01 6:00' --crontab jobs|agenda upcoming --after 2024-01-01T06:00:00Z --crontab jobs
 BadLength machine|agenda machine quiet --least 1:30|agenda machine quiet --least '1h 30min'

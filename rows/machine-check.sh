@@ -20,7 +20,7 @@ check_findings() {
     printf -v said '%b' "$said"
     case $code in
       NeverStarts | EitherDay | Percent | CarriageReturn | ZoneSetting | SkippedStarts) severity=warning ;;
-      UnknownKey | BadDelay | NoEvents | Monotonic | Delayed | TimerRejected | UnitIgnored | LineEnd | Merged) severity=warning ;;
+      UnknownKey | BadBoolean | BadDelay | NoEvents | Monotonic | Delayed | TimerRejected | UnitIgnored | LineEnd | Merged) severity=warning ;;
       SystemdRejects | RangeFromEnd | MayStop | CronIgnores | CronDiffers | NoUser) severity=warning ;;
       *) severity=error found=1 ;;
     esac

@@ -387,6 +387,8 @@ RandomizedDelaySec=1h\\\\\n  \x5cé'\x7f|'1h \\\\é'\x7f' is not a time span [Ba
 RandomizedDelaySec=$(messages_repeat 64 1)|'$(messages_repeat 64 1)' is not a time span [BadDelay]
 AccuracySec=$(messages_repeat 65 1)|'$(messages_repeat 64 1)'... is not a time span [BadDelay]
 AccuracySec=$(messages_repeat 62 1)€|'$(messages_repeat 62 1)'... is not a time span [BadDelay]
+Persistent=|'' is not a boolean [BadBoolean]
+Persistent = si |'si' is not a boolean [BadBoolean]
 ROWS
 messages_of_settings whole <<ROWS
 OnBootSec=5min|also starts by OnBootSec= or the like, which is not planned [Monotonic]
