@@ -4,8 +4,8 @@
 //! time and then by job.
 //!
 //! The crate uses plan_rules for the jobs, and plan_next for the pieces. Read `collector` first, then
-//! `agenda`. `timing` has the delays, and `windows` the laws of them. `plan_fault` has the errors of a plan, and
-//! `upcoming` the next start of each job. plan_write makes the texts.
+//! `agenda`. `timing` has the delays, and `windows` the laws of them. `plan_fault` has the errors of a plan,
+//! `upcoming` the next start of each job, and `view` what is printed of an agenda. plan_write makes the texts.
 #![tactic(auto)]
 
 mod agenda;
@@ -18,6 +18,7 @@ mod sorting;
 mod start;
 mod timing;
 mod upcoming;
+mod view;
 mod windows;
 
 pub use agenda::Agenda;
@@ -30,4 +31,5 @@ pub use sizes::Sizes;
 pub use start::Start;
 pub use timing::first_second;
 pub use upcoming::Upcoming;
+pub use view::PlanView;
 pub use windows::{agenda_has_each_window_once, without_delays_windows_are_the_agenda};

@@ -5,7 +5,7 @@ use Rattle.plan_sets.specs.Moment.{moment_text_of}
 use Rattle.plan_write.specs.LocalTimes.{local_text}
 use Rattle.plan_write.specs.declared.formats.Format.{Format}
 use Rattle.plan_write.specs.declared.time_fields.TimeField.{TimeField}
-use Rattle.plan_write.specs.declared.time_fields.TimeField.TheVariants.{Start, Latest, From, Until}
+use Rattle.plan_write.specs.declared.time_fields.TimeField.TheVariants.{Start, Latest, From, Until, First, Last}
 
 -- a second in UTC, or by the clock of a zone if one is given
 abbrev pub time_text : (local : Option NamedZone) → ℕ → List ℕ
@@ -31,6 +31,8 @@ opening Start = codes "{\"start\":"
 opening Latest = codes ",\"latest\":"
 opening From = codes "{\"from\":"
 opening Until = codes ",\"until\":"
+opening First = codes "{\"first\":"
+opening Last = codes ",\"last\":"
 
 -- what opens the member of the same time by the clock of a zone
 abbrev pub local_opening : TimeField → List ℕ
@@ -38,6 +40,8 @@ local_opening Start = codes ",\"local\":"
 local_opening Latest = codes ",\"latest_local\":"
 local_opening From = codes ",\"from_local\":"
 local_opening Until = codes ",\"until_local\":"
+local_opening First = codes ",\"first_local\":"
+local_opening Last = codes ",\"last_local\":"
 
 -- a time as a string, whose bytes all stand for themselves; no time is null (RFC 8259, sections 3 and 7)
 abbrev pub time_value : Option (List ℕ) → List ℕ

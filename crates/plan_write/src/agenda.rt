@@ -1,7 +1,8 @@
 //! The text of an agenda: its header, and a line for each entry.
 
-ghost use Rattle.std.specs.Prelude.{◌≡◌, IsTrue, OnOk, length};
-ghost use Rattle.plan_collect.specs.Agenda.{IsOfJobs};
+ghost use Rattle.std.specs.Prelude.{◌≡◌, [], IsTrue, OnOk, length};
+ghost use Rattle.std.specs.List.{cons_option};
+ghost use Rattle.plan_collect.specs.Agenda.{IsInYears, IsOfJobs};
 ghost use Rattle.plan_streams.specs.Stream.{Puts};
 ghost use Rattle.plan_write.specs.Texts.{header_in, header_of, lines_of, span_columns, text_by_ends, version, zone_mark};
 ghost use Rattle.plan_streams.specs.Writer.{Takes};
@@ -11,7 +12,7 @@ use crate::job_lines::put_lines;
 use crate::line_ends::LineEnds;
 use crate::time_fields::{Stamps, put_column};
 use itoa::Buffer as Digits;
-use plan_collect::Agenda;
+use plan_collect::{Agenda, Start};
 use plan_rules::NamedZone;
 use plan_streams::{Stream, TextWriter, WriteFault};
 
@@ -47,6 +48,33 @@ pub fn write_agenda<S: Stream>(
     let mut lines = TextWriter::new(out);
     put_header(agenda, format, delays, &mut lines);
     put_entries(agenda, ends, format, delays, &mut lines);
+    lines.finish()
+}
+
+/// Writes the line of an entry as `write_agenda` does, by the ends of the lines of its jobs, if there is one.
+///
+/// This requests no memory. The stream is flushed once, at the end.
+///
+/// # Errors
+///
+/// `Device` or `Closed` if the stream fails. Then only the first bytes of the text were written.
+// Not inlined: its buffer of 64 KiB takes stack only while it runs.
+#[inline(never)]
+pub fn write_entry<S: Stream>(
+    entry: Option<Start>,
+    ends: &LineEnds,
+    format: &Format,
+    delays: bool,
+    out: &mut S,
+) -> Result<(), WriteFault>
+    requires { IsInYears (cons_option entry []) }
+    ensures text { Puts S.takes_all result (S.holds out.old) (S.holds out.new) (lines_of format.now delays (cons_option entry []) ends.now) }
+    ensures flushed { OnOk result (IsTrue (S.is_flushed out.new)) }
+{
+    let mut lines = TextWriter::new(out);
+    if let Some(entry) = entry {
+        put_lines(&[entry], ends, format, delays, &mut lines);
+    }
     lines.finish()
 }
 

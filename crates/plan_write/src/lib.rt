@@ -23,14 +23,15 @@ mod stamp;
 mod time_fields;
 mod upcoming;
 
-pub use agenda::write_agenda;
+pub use agenda::{write_agenda, write_entry};
 pub use formats::Format;
 pub use json_strings::{hex_digit, put_string, put_text, strings_read_back};
-pub use line_ends::{JobFile, LineEnds};
+pub use line_ends::{JobFile, LineEnd, LineEnds};
 pub use local_times::LocalStamp;
 pub use next::write_next;
 pub use plan_collect::Upcoming;
 pub use quiet::{nominal_gaps_are_of_marks, nothing_starts_in_gaps, write_quiet};
 pub use replies::write_replies;
 pub use shown::{push_shown, put_shown};
+pub use time_fields::{LineStamps, Stamps, TimeField, put_field};
 pub use upcoming::write_upcoming;

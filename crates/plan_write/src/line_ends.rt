@@ -78,9 +78,9 @@ impl LineEnds {
         Ok(LineEnds { ends })
     }
 
-    // Returns the end of the lines of the job with a number.
+    /// Returns the end of the lines of the job with a number.
     #[inline(always)]
-    pub(crate) fn get(&self, number: usize) -> Option<&LineEnd>
+    pub fn get(&self, number: usize) -> Option<&LineEnd>
         ensures { option_copied result ≡ slice_get self.now number }
     {
         self.ends.get(number)
@@ -89,7 +89,7 @@ impl LineEnds {
 
 /// The end of the lines of a job, and the job's delay in seconds.
 #[derive(Drop)]
-pub(crate) struct LineEnd {
+pub struct LineEnd {
     text: Vec<u8>,
     delay: u64,
 }
@@ -129,7 +129,7 @@ impl LineEnd {
 
     /// Returns the text.
     #[inline(always)]
-    pub(crate) fn text(&self) -> &[u8]
+    pub fn text(&self) -> &[u8]
         ensures { result.now ≡ self.now.text }
     {
         &self.text

@@ -12,8 +12,8 @@ use plan_rules::NamedZone;
 use plan_streams::{Stream, TextWriter};
 
 /// A time in a line.
-#[derive(Clone, Copy)]
-pub(crate) enum TimeField {
+#[derive(Clone, Copy, Debug)]
+pub enum TimeField {
     /// The start of a job.
     Start,
     /// The latest start for it.
@@ -22,6 +22,10 @@ pub(crate) enum TimeField {
     From,
     /// The end of a gap.
     Until,
+    /// The first start of a job in a span.
+    First,
+    /// The last one.
+    Last,
 }
 
 impl TimeField {
@@ -34,6 +38,8 @@ impl TimeField {
             TimeField::Latest => b",\"latest\":\"",
             TimeField::From => b"{\"from\":\"",
             TimeField::Until => b",\"until\":\"",
+            TimeField::First => b"{\"first\":\"",
+            TimeField::Last => b",\"last\":\"",
         }
     }
 
@@ -46,6 +52,8 @@ impl TimeField {
             TimeField::Latest => b",\"latest_local\":\"",
             TimeField::From => b",\"from_local\":\"",
             TimeField::Until => b",\"until_local\":\"",
+            TimeField::First => b",\"first_local\":\"",
+            TimeField::Last => b",\"last_local\":\"",
         }
     }
 
@@ -58,6 +66,8 @@ impl TimeField {
             TimeField::Latest => b",\"latest\":null",
             TimeField::From => b"{\"from\":null",
             TimeField::Until => b",\"until\":null",
+            TimeField::First => b"{\"first\":null",
+            TimeField::Last => b",\"last\":null",
         }
     }
 
@@ -70,20 +80,22 @@ impl TimeField {
             TimeField::Latest => b",\"latest_local\":null",
             TimeField::From => b",\"from_local\":null",
             TimeField::Until => b",\"until_local\":null",
+            TimeField::First => b",\"first_local\":null",
+            TimeField::Last => b",\"last_local\":null",
         }
     }
 }
 
 /// The texts of the last time of a field: many lines of an answer show the same time, or one of the same day.
 #[derive(Drop)]
-pub(crate) struct Stamps {
+pub struct Stamps {
     pub(crate) utc: Stamp,
     local: LocalStamp,
 }
 
 impl Stamps {
     /// Returns the texts of any time.
-    pub(crate) fn new() -> Stamps {
+    pub fn new() -> Stamps {
         Stamps {
             utc: Stamp::new(0),
             local: LocalStamp::new(),
@@ -93,14 +105,16 @@ impl Stamps {
 
 /// The texts of the last times of the two fields of a line.
 #[derive(Drop)]
-pub(crate) struct LineStamps {
-    pub(crate) first: Stamps,
-    pub(crate) last: Stamps,
+pub struct LineStamps {
+    /// The texts of the first field's time.
+    pub first: Stamps,
+    /// Those of the second field's.
+    pub last: Stamps,
 }
 
 impl LineStamps {
     /// Returns the texts of any times.
-    pub(crate) fn new() -> LineStamps {
+    pub fn new() -> LineStamps {
         LineStamps {
             first: Stamps::new(),
             last: Stamps::new(),
@@ -110,7 +124,7 @@ impl LineStamps {
 
 /// Puts a time, and then what follows it in the line.
 #[inline(always)]
-pub(crate) fn put_field<S: Stream>(
+pub fn put_field<S: Stream>(
     format: &Format,
     field: TimeField,
     second: u64,
