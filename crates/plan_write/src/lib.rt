@@ -33,5 +33,5 @@ pub use plan_collect::Upcoming;
 pub use quiet::{nominal_gaps_are_of_marks, nothing_starts_in_gaps, write_quiet};
 pub use replies::write_replies;
 pub use shown::{push_shown, put_shown};
-pub use time_fields::{LineStamps, Stamps, TimeField, put_field};
+pub use time_fields::{LineStamps, Stamps, TimeField, put_field, put_time};
 pub use upcoming::write_upcoming;

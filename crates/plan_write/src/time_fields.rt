@@ -186,7 +186,7 @@ pub(crate) fn put_column<S: Stream>(
 
 /// Puts a time in UTC, or by the clock of a zone if one is given.
 #[inline(always)]
-pub(crate) fn put_time<S: Stream>(
+pub fn put_time<S: Stream>(
     local: &Option<NamedZone>,
     second: u64,
     stamps: &mut Stamps,
