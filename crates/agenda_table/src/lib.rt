@@ -29,5 +29,6 @@ pub use jobs::{JobCells, JobRows, runs_of, write_job_table};
 pub use last::{after_text, plural, span_text};
 pub use line::Frame;
 pub use look::Look;
+pub use short::Short;
 pub use starts::{StartRows, write_start_table};
 pub use table::{RowSink, Rows, write_table};

@@ -84,7 +84,7 @@ impl<'a> Look<'a> {
 
     /// Returns the text of a time with its date. `passed` is a guess of how many changes of the clock are before it, and
     /// is set to that number.
-    pub(crate) fn start_text(&self, second: u64, passed: &mut usize) -> Short
+    pub fn start_text(&self, second: u64, passed: &mut usize) -> Short
         requires { second ≤ end_second }
         ensures { result.bytes ≡ start_text self.now second }
     {
@@ -93,7 +93,7 @@ impl<'a> Look<'a> {
     }
 
     /// Returns the text of a time that is in a row after another one: without its date if that is the date of the first.
-    pub(crate) fn later_text(&self, first: u64, second: u64, passed: &mut usize) -> Short
+    pub fn later_text(&self, first: u64, second: u64, passed: &mut usize) -> Short
         requires first { first ≤ end_second }
         requires second { second ≤ end_second }
         ensures { result.bytes ≡ later_text self.now first second }

@@ -8,8 +8,8 @@ ghost use Rattle.agenda_table.specs.Times.{distance_in_units, from_now_text, len
 use arrayvec::ArrayString;
 use itoa::Buffer as Digits;
 
-/// A short text.
-pub(crate) type Short = ArrayString<160>;
+/// A short text: a time or a length.
+pub type Short = ArrayString<160>;
 
 /// Returns a word of a head, or `none`.
 pub(crate) fn word(text: &str) -> Short
