@@ -7,7 +7,7 @@ ghost use Rattle.plan_machine.specs.Zone.{are_parts, database_bytes, is_name_byt
 
 use crate::files::{bytes_of_end, lead_of};
 use plan_texts::{Text, cut};
-use plan_tree::{Node, Tree};
+use plan_tree::{End, Node, Tree};
 use std::alloc::{AllocError, Global};
 
 /// The time zone of a machine, as its etc/localtime says.

@@ -1,5 +1,5 @@
 -- Worked rows of gaps with delays. They answer no goal of a function, but test `gaps`. The span is the first day of 2024.
-use Rattle.std.proofs.Common.{◌≡◌, ℕ, List, [], ◌∷◌, None, refl}
+use Rattle.std.proofs.Common.{false, ◌≡◌, ℕ, List, [], ◌∷◌, None, refl}
 use Rattle.plan_match.specs.declared.rule.Rule.TheVariants.{Never}
 use Rattle.plan_rules.specs.Job.{JobParts}
 use Rattle.plan_collect.specs.Agenda.{Planned}
@@ -7,7 +7,7 @@ use Rattle.plan_write.specs.Quiet.{gaps}
 
 -- a job with this delay
 abbrev delayed : ℕ → JobParts
-delayed delay = record { name = []; user = None; command = []; rule = Never; delay = delay }
+delayed delay = record { name = []; user = None; command = []; rule = Never; delay = delay; persistent = false }
 
 -- entries of the job with number 0, on that day
 abbrev on_day : List (ℕ × ℕ) → Planned
