@@ -1,12 +1,11 @@
 //! The crontabs of a machine that the program which reads them ignores, for what their texts don't say.
 
 ghost use Rattle.std.specs.Prelude.{◌≡◌, true, IfOk};
-ghost use Rattle.plan_machine.specs.Ignored.{cron_of, ignored_among, ignored_source, unplanned_by};
+ghost use Rattle.plan_machine.specs.Ignored.{cron_of, ignored_among, ignored_source};
 
 use crate::daemon::lacks_cron_daemon;
 use crate::source::MachineSource;
 use plan_owners::{CronDaemon, Daemon, file_why};
-use plan_texts::Text;
 use plan_timers::{NotPlanned, Unplanned, copy_of};
 use plan_tree::Tree;
 use std::alloc::{AllocError, Global};
@@ -89,16 +88,9 @@ fn ignored_source<T: Tree>(
         return Ok(None);
     };
     let path = copy_of(alloc, file.path())?;
-    let why = unplanned_by(ignored.line, ignored.why);
+    let why = match ignored.line {
+        Some(line) => Unplanned::LineNotLoaded(line, ignored.why),
+        None => Unplanned::NotLoaded(ignored.why),
+    };
     Ok(Some(NotPlanned { path, why }))
-}
-
-// Returns why a file that is ignored isn't planned.
-fn unplanned_by(line: Option<u32>, why: Text) -> Unplanned
-    ensures { result ≡ unplanned_by line why }
-{
-    match line {
-        Some(line) => Unplanned::LineNotLoaded(line, why),
-        None => Unplanned::NotLoaded(why),
-    }
 }

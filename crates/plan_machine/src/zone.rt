@@ -1,6 +1,7 @@
 //! The time zone of a machine (localtime(5)).
 
 ghost use Rattle.std.specs.Prelude.{◌≡◌, true, IfOk};
+ghost use Rattle.std.specs.List.{list_all};
 ghost use Rattle.std.specs.Option.{option_map};
 ghost use Rattle.plan_machine.specs.Files.{lead_of};
 ghost use Rattle.plan_machine.specs.Zone.{are_parts, database_bytes, is_name_byte, is_zone_name, machine_zone, name_in, zone_at, zone_of_link, zone_shown};
@@ -110,7 +111,14 @@ fn name_in(text: &str) -> Option<&str>
 fn is_zone_name(text: &[u8]) -> bool
     ensures { result ≡ is_zone_name text.now }
 {
-    text.iter().all(|byte| is_name_byte(*byte)) && are_parts(text)
+    are_name_bytes(text) && are_parts(text)
+}
+
+// Returns whether a zone's name may have all these bytes.
+fn are_name_bytes(bytes: &[u8]) -> bool
+    ensures { result ≡ list_all is_name_byte bytes.now }
+{
+    bytes.iter().all(|byte| is_name_byte(*byte))
 }
 
 // Returns whether no part of a text between its slashes is empty.

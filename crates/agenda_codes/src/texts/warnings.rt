@@ -1,9 +1,9 @@
 //! What is said about warnings.
 
 pub(crate) const BAD_BOOLEAN: &str = "\
-The value of 'Persistent=' isn't a boolean, so systemd ignores it, also if it is
-empty. The last boolean counts. If there is none, the timer doesn't make up for
-starts that it missed. Write 'yes' or 'no'.
+The value of 'Persistent=' isn't a boolean, so systemd ignores it. An empty
+value isn't one either. The last boolean counts. If there is none, the timer
+doesn't make up for starts that it missed. Write 'yes' or 'no'.
 
 Before:
     Persistent=enabled
