@@ -29,6 +29,12 @@ bytes_of_end held most (Found real) = bytes_at held most real
 bytes_of_end held most Nothing = None
 bytes_of_end held most Unknown = None
 
+-- a file with this path, by its bytes if it can be read
+abbrev pub read_file : Held → (most : ℕ) → List ℕ → List ℕ → Option FileBytes
+read_file held most path real = option_map (λ bytes. record { path = path; bytes = bytes }) (bytes_at held most real)
+
 -- the file where a path leads, with its first `most` bytes
 abbrev pub file_at : Held → (most : ℕ) → List ℕ → End → Option FileBytes
-file_at held most path end = option_map (λ bytes. record { path = path; bytes = bytes }) (bytes_of_end held most end)
+file_at held most path (Found real) = read_file held most path real
+file_at held most path Nothing = None
+file_at held most path Unknown = None

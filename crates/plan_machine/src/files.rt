@@ -28,7 +28,10 @@ pub(crate) fn file_at<T: Tree>(
 ) -> Result<Option<Part>, AllocError>
     ensures { T.is_known ≡ true → IfOk result (λ file. file ≡ file_at (T.held tree.now) most path.now end.now) }
 {
-    match bytes_of_end(alloc, tree, most, end)? {
+    let End::Found(real) = end else {
+        return Ok(None);
+    };
+    match bytes_at(alloc, tree, most, real.as_str())? {
         None => Ok(None),
         Some(bytes) => Ok(Some(Part::new(copy_of(alloc, path)?, bytes))),
     }
