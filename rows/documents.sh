@@ -6,7 +6,7 @@
 . "$top/bin/lib/documents/rules.sh"
 
 documents_project=$work/documents
-documents_help=crates/agenda_arguments/src/command/help.rt
+documents_help=crates/agenda_options/src/command/help.rt
 
 # Makes a project of a few pages that keep all rules.
 documents_make() {
