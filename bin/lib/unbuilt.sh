@@ -8,7 +8,7 @@ help_source=$top/rows/words.sh
 
 # Prints the names of the commands, one per line.
 command_names() {
-  sed -n '/^pub(crate) fn agenda_command/,/^    \];/s/^ *Subcommand::\([A-Za-z]*\),$/\1/p' "$command_source" |
+  sed -n '/^pub fn agenda_command/,/^    \];/s/^ *Subcommand::\([A-Za-z]*\),$/\1/p' "$command_source" |
     tr '[:upper:]' '[:lower:]'
 }
 
