@@ -27,7 +27,7 @@ _agenda() {
                 [[ $command != machine\ -* ]] || command='machine upcoming'
                 break
                 ;;
-            next | plan | upcoming | quiet | check | describe | steps | explain)
+            next | plan | upcoming | quiet | downtime | clear | week | check | describe | steps | explain)
                 command=${words[at]}
                 break
                 ;;
@@ -80,7 +80,8 @@ _agenda() {
 
     local sources='--zone= --event-zones --crontab= --system-crontab= --cron-d= --spool= --help'
     local jobs="--keep-going --delays --json --local $sources"
-    local span='--since= --upto= --until= --planners= --room= --limit='
+    local search='--since= --upto= --until= --planners= --room='
+    local span="$search --limit="
     local machine='--root= --all --zone= --utc --json --help'
     local form='--table --text'
     case $command:$cur in
@@ -88,7 +89,7 @@ _agenda() {
             mapfile -t COMPREPLY < <(compgen -W '--help --version' -- "$cur")
             ;;
         :*)
-            mapfile -t COMPREPLY < <(compgen -W 'next plan upcoming quiet check describe machine steps explain' -- "$cur")
+            mapfile -t COMPREPLY < <(compgen -W 'next plan upcoming quiet downtime clear week check describe machine steps explain' -- "$cur")
             ;;
         next:*)
             mapfile -t COMPREPLY < <(compgen -W '--after= --zone= --event-zones --count= --cron= --calendar= --json --local --help' -- "$cur")
@@ -106,6 +107,14 @@ _agenda() {
             mapfile -t COMPREPLY < <(compgen -W "$span --least= $jobs" -- "$cur")
             [[ ${COMPREPLY-} == *= ]] && compopt -o nospace
             ;;
+        downtime:-* | week:-*)
+            mapfile -t COMPREPLY < <(compgen -W "$span --keep-going --json $sources" -- "$cur")
+            [[ ${COMPREPLY-} == *= ]] && compopt -o nospace
+            ;;
+        clear:-*)
+            mapfile -t COMPREPLY < <(compgen -W "$search --keep-going --nominal --local $sources" -- "$cur")
+            [[ ${COMPREPLY-} == *= ]] && compopt -o nospace
+            ;;
         check:-*)
             mapfile -t COMPREPLY < <(compgen -W "--deny= --allow= --json $sources" -- "$cur")
             [[ ${COMPREPLY-} == *= ]] && compopt -o nospace
@@ -119,7 +128,7 @@ _agenda() {
             [[ ${COMPREPLY-} == *= ]] && compopt -o nospace
             ;;
         machine:*)
-            mapfile -t COMPREPLY < <(compgen -W 'upcoming plan quiet check sources next describe' -- "$cur")
+            mapfile -t COMPREPLY < <(compgen -W 'upcoming plan quiet downtime clear week check sources next describe' -- "$cur")
             ;;
         machine\ plan:*)
             mapfile -t COMPREPLY < <(compgen -W "$span --except= --delays --strict $form $machine" -- "$cur")
@@ -127,6 +136,18 @@ _agenda() {
             ;;
         machine\ quiet:*)
             mapfile -t COMPREPLY < <(compgen -W "$span --least= --except= --nominal --strict $form $machine" -- "$cur")
+            [[ ${COMPREPLY-} == *= ]] && compopt -o nospace
+            ;;
+        machine\ downtime:*)
+            mapfile -t COMPREPLY < <(compgen -W "$span --except= --strict $form $machine" -- "$cur")
+            [[ ${COMPREPLY-} == *= ]] && compopt -o nospace
+            ;;
+        machine\ clear:*)
+            mapfile -t COMPREPLY < <(compgen -W "$search --except= --nominal --strict ${machine/--json /}" -- "$cur")
+            [[ ${COMPREPLY-} == *= ]] && compopt -o nospace
+            ;;
+        machine\ week:*)
+            mapfile -t COMPREPLY < <(compgen -W "$span --except= --strict $machine" -- "$cur")
             [[ ${COMPREPLY-} == *= ]] && compopt -o nospace
             ;;
         machine\ sources:*)
@@ -145,7 +166,7 @@ _agenda() {
             mapfile -t COMPREPLY < <(compgen -W "--except= --strict $form $machine" -- "$cur")
             [[ ${COMPREPLY-} == *= ]] && compopt -o nospace
             ;;
-        plan:* | upcoming:* | quiet:* | check:* | describe:*)
+        plan:* | upcoming:* | quiet:* | downtime:* | clear:* | week:* | check:* | describe:*)
             _filedir timer
             ;;
         steps:-*)

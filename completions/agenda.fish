@@ -13,11 +13,14 @@ function __fish_agenda_zones
     end
 end
 
-set -l none 'not __fish_seen_subcommand_from next plan upcoming quiet check describe machine steps explain'
+set -l none 'not __fish_seen_subcommand_from next plan upcoming quiet downtime clear week check describe machine steps explain'
 complete -c agenda -n $none -a next -d 'Print the next starts of one rule'
 complete -c agenda -n $none -a plan -d 'Print every start in a span of time'
 complete -c agenda -n $none -a upcoming -d 'Print when each job of crontabs and timers starts next'
 complete -c agenda -n $none -a quiet -d 'Print the gaps in which no job starts'
+complete -c agenda -n $none -a downtime -d 'Print what a machine misses while it is down'
+complete -c agenda -n $none -a clear -d 'Succeed if no job starts in a span'
+complete -c agenda -n $none -a week -d 'Show how many jobs start in each hour'
 complete -c agenda -n $none -a check -d 'Print errors and likely mistakes in crontabs and timers'
 complete -c agenda -n $none -a describe -d 'Say in words when a rule or each job starts'
 complete -c agenda -n $none -a machine -d 'Answer questions about a machine\'s crontabs and timers'
@@ -30,16 +33,16 @@ set -l after '__fish_seen_subcommand_from next upcoming'
 complete -c agenda -n $after -l after -x -d 'Only starts later than this time'
 
 # machine has a command check of its own
-set -l zone 'not __fish_seen_subcommand_from machine; and __fish_seen_subcommand_from next plan upcoming quiet check describe'
+set -l zone 'not __fish_seen_subcommand_from machine; and __fish_seen_subcommand_from next plan upcoming quiet downtime clear week check describe'
 complete -c agenda -n $zone -l zone -r -F -d 'The time zone of the rules [UTC]' -a '(__fish_agenda_zones)'
 complete -c agenda -n $zone -l event-zones -d 'Read events that end with a time zone'
-complete -c agenda -n $zone -l json -d 'Print each line as a JSON object'
+complete -c agenda -n "$zone; and not __fish_seen_subcommand_from clear" -l json -d 'Print each line as a JSON object'
 
 set -l check '__fish_seen_subcommand_from check'
 complete -c agenda -n $check -l deny -x -d 'Print this warning as an error' -a 'all (agenda explain 2>/dev/null)'
 complete -c agenda -n $check -l allow -x -d 'Don\'t print this warning' -a '(agenda explain 2>/dev/null)'
 
-set -l times '__fish_seen_subcommand_from next plan upcoming quiet'
+set -l times '__fish_seen_subcommand_from next plan upcoming quiet; or begin; not __fish_seen_subcommand_from machine; and __fish_seen_subcommand_from clear; end'
 complete -c agenda -n $times -l local -d 'Print times in the time zone of the rules'
 
 set -l next 'not __fish_seen_subcommand_from machine; and __fish_seen_subcommand_from next'
@@ -51,7 +54,7 @@ complete -c agenda -n $rule -l cron -x -d 'A cron rule' \
 complete -c agenda -n $rule -l calendar -x -d 'A calendar event' \
     -a 'minutely hourly daily weekly monthly quarterly semiannually yearly annually'
 
-set -l span '__fish_seen_subcommand_from plan quiet'
+set -l span '__fish_seen_subcommand_from plan quiet downtime clear week'
 complete -c agenda -n $span -l since -x -d 'The start of the span'
 complete -c agenda -n $span -l upto -x -d 'The end of the span, not included'
 complete -c agenda -n $span -l until -x -d 'The end of the span, not included'
@@ -61,27 +64,32 @@ complete -c agenda -n $span -l room -x -d 'How many messages of each thread may 
 set -l plan '__fish_seen_subcommand_from plan'
 complete -c agenda -n $plan -l limit -x -d 'The maximum number of starts, from 1 to 1000000 [10000]'
 
+set -l counted '__fish_seen_subcommand_from quiet downtime week'
+complete -c agenda -n $counted -l limit -x -d 'The maximum number of starts, from 1 to 1000000 [1000000]'
+
 set -l quiet '__fish_seen_subcommand_from quiet'
-complete -c agenda -n $quiet -l limit -x -d 'The maximum number of starts, from 1 to 1000000 [1000000]'
 complete -c agenda -n $quiet -l least -x -d 'The minimum length of a gap in seconds [1800]'
 
-set -l keeping 'not __fish_seen_subcommand_from machine; and __fish_seen_subcommand_from plan upcoming quiet describe'
+set -l keeping 'not __fish_seen_subcommand_from machine; and __fish_seen_subcommand_from plan upcoming quiet downtime clear week describe'
 complete -c agenda -n $keeping -l keep-going -d 'Skip what is invalid or can\'t be read, and report it'
 
 set -l jobs '__fish_seen_subcommand_from plan upcoming quiet'
 complete -c agenda -n $jobs -l delays -d 'Include the delays of timers'
 
-set -l sources 'not __fish_seen_subcommand_from machine; and __fish_seen_subcommand_from plan upcoming quiet check describe'
+set -l sources 'not __fish_seen_subcommand_from machine; and __fish_seen_subcommand_from plan upcoming quiet downtime clear week check describe'
 complete -c agenda -n $sources -l crontab -r -F -d 'A user\'s crontab'
 complete -c agenda -n $sources -l system-crontab -r -F -d 'The system\'s crontab'
 complete -c agenda -n $sources -l cron-d -r -F -d 'A crontab of a package'
 complete -c agenda -n $sources -l spool -r -F -d 'A user\'s crontab, named by the user'
 complete -c agenda -n $sources -k -a '(__fish_complete_suffix .timer)'
 
-set -l machine '__fish_seen_subcommand_from machine; and not __fish_seen_subcommand_from upcoming plan quiet check sources next describe'
+set -l machine '__fish_seen_subcommand_from machine; and not __fish_seen_subcommand_from upcoming plan quiet downtime clear week check sources next describe'
 complete -c agenda -n $machine -a upcoming -d 'Print when each job of a machine starts next'
 complete -c agenda -n $machine -a plan -d 'Print every start of a machine\'s jobs in a span of time'
 complete -c agenda -n $machine -a quiet -d 'Print the gaps in which no job of a machine starts'
+complete -c agenda -n $machine -a downtime -d 'Print what a machine misses while it is down'
+complete -c agenda -n $machine -a clear -d 'Succeed if no job of a machine starts in a span'
+complete -c agenda -n $machine -a week -d 'Show how many jobs of a machine start in each hour'
 complete -c agenda -n $machine -a check -d 'Print errors and likely mistakes in a machine\'s crontabs and timers'
 complete -c agenda -n $machine -a sources -d 'List a machine\'s crontabs and timers'
 complete -c agenda -n $machine -a next -d 'Print the next starts of a rule by the machine\'s clock'
@@ -90,7 +98,8 @@ complete -c agenda -n $machine -a describe -d 'Say in words when each job of a m
 set -l question '__fish_seen_subcommand_from machine; and not __fish_seen_subcommand_from next'
 complete -c agenda -n $question -l root -x -d 'The root directory of the machine [/]' -a '(__fish_complete_directories)'
 complete -c agenda -n $question -l all -d 'Include timers that aren\'t enabled'
-complete -c agenda -n '__fish_seen_subcommand_from machine' -l json -d 'Print each line as a JSON object'
+complete -c agenda -n '__fish_seen_subcommand_from machine; and not __fish_seen_subcommand_from clear' -l json \
+    -d 'Print each line as a JSON object'
 complete -c agenda -n '__fish_seen_subcommand_from machine; and __fish_seen_subcommand_from next' -l count -x \
     -d 'How many starts, from 1 to 1000 [5]'
 
@@ -102,10 +111,10 @@ complete -c agenda -n '__fish_seen_subcommand_from machine; and not __fish_seen_
     -d 'Ignore the job with this name, as it is printed'
 complete -c agenda -n '__fish_seen_subcommand_from machine; and not __fish_seen_subcommand_from check sources next' -l strict \
     -d 'Let an error in a file stop the answer'
-set -l formed '__fish_seen_subcommand_from machine; and not __fish_seen_subcommand_from check sources'
+set -l formed '__fish_seen_subcommand_from machine; and not __fish_seen_subcommand_from check sources clear week'
 complete -c agenda -n $formed -l table -d 'Print a table, also if this isn\'t a terminal'
 complete -c agenda -n $formed -l text -d 'Print text, also on a terminal'
-complete -c agenda -n '__fish_seen_subcommand_from machine; and __fish_seen_subcommand_from quiet' -l nominal \
+complete -c agenda -n '__fish_seen_subcommand_from clear; or begin; __fish_seen_subcommand_from machine; and __fish_seen_subcommand_from quiet; end' -l nominal \
     -d 'Don\'t count the delays of timers'
 
 complete -c agenda -n '__fish_seen_subcommand_from steps' -F

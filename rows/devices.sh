@@ -109,6 +109,8 @@ devices_left() {
   # an answer without a byte writes nothing, so it can't fail
   devices_run 'exec 3<>left 4>left 3>&-; exec agenda check --crontab jobs >&4 4>&-'
   compare_texts "an empty answer to a pipe without a reader" '' '' 0
+  devices_run 'exec agenda clear --since 2024-01-01T00:00:01Z --until 2024-01-01T01:00:00Z --crontab jobs >&-'
+  compare_texts "a clear span, standard output closed" '' '' 0
   # what is skipped is reported before the answer, and other errors are reported as always
   devices_run "exec 3<>left 4>left 3>&-; exec agenda plan $devices_day --keep-going --crontab jobs nothing >&4 4>&-"
   compare_texts "a plan that keeps going to a pipe without a reader" '' $'agenda: nothing: Device\n' 3
@@ -127,7 +129,7 @@ devices_left() {
 # that is full it is an error.
 devices_help() {
   local command to
-  for command in '' next plan upcoming quiet check describe steps explain; do
+  for command in '' next plan upcoming quiet downtime clear week check describe steps explain; do
     devices_run "exec agenda $command --help"
     cp "$work/out" "$work/help.wanted"
     [ -s "$work/out" ] || tell "nothing on standard output"
@@ -171,6 +173,10 @@ plan loop.timer|3|loop.timer: Device
 steps /|3|/: Device
 check --crontab jobs/|3|jobs/: Device
 check --crontab jobs d.timer loop.timer .|3|loop.timer: Device
+downtime --since 2024-01-01T00:00:00Z --until 2024-01-02T00:00:00Z --crontab jobs loop.timer|3|loop.timer: Device
+clear --since 2024-01-01T00:00:01Z --until 2024-01-01T01:00:00Z --crontab jobs zero.timer|1|zero.timer: line 0: TooLarge
+clear --since 2024-01-01T00:00:01Z --until 2024-01-01T01:00:00Z --crontab jobs/|3|jobs/: Device
+week --since 2024-01-01T00:00:00Z --until 2024-01-02T00:00:00Z --crontab .|3|.: Device
 ROWS
 
 if [ -c /dev/full ]; then
@@ -209,6 +215,9 @@ plan --since 2024-01-01T00:00:00Z --upto 2024-01-01T00:01:00Z zero.timer|1
 steps nothing|3
 plan --since 2024-01-01T00:00:00Z --upto 2024-01-01T00:01:00Z loop.timer|3
 check loop.timer|3
+downtime --since 2024 --until 2024|1
+clear --since 2024-01-01T00:00:01Z --until 2024-01-01T01:00:00Z --crontab jobs loop.timer|3
+week --since 2024-01-01T00:00:00Z --upto 2024-01-01T00:01:00Z zero.timer|1
 ROWS
 fi
 devices_streams
@@ -227,6 +236,12 @@ upcoming --after 2024-01-01T00:00:00Z --crontab jobs d.timer
 upcoming --after 2024-01-01T00:00:00Z --crontab jobs d.timer --json --keep-going
 quiet day --crontab jobs
 quiet day --crontab jobs --json
+downtime day --crontab jobs d.timer
+downtime day --crontab jobs d.timer --json --keep-going
+clear day --crontab jobs
+clear day --crontab jobs d.timer --nominal --local --keep-going
+week day --crontab jobs
+week day --crontab minutes --json
 check --crontab faulty
 check --crontab faulty --json
 describe --cron @daily
@@ -241,5 +256,8 @@ devices_long_paths <<'ROWS'
 steps
 plan --since 2024-01-01T00:00:00Z --upto 2024-01-02T00:00:00Z --crontab
 upcoming --after 2024-01-01T00:00:00Z --cron-d
+downtime --since 2024-01-01T00:00:00Z --until 2024-01-02T00:00:00Z --spool
+clear --since 2024-01-01T00:00:01Z --until 2024-01-01T01:00:00Z --crontab jobs
+week --since 2024-01-01T00:00:00Z --until 2024-01-02T00:00:00Z --crontab jobs
 check --crontab jobs --spool
 ROWS

@@ -1,6 +1,7 @@
 # shellcheck shell=bash disable=SC2154
-# Rows of bin/check-examples: the option --json. They show the whole JSON Lines of the five commands that take it, and, if jq(1) is
-# installed, that jq reads each line back to what the command prints without the option.
+# Rows of bin/check-examples: the option --json. They show the whole JSON Lines of the commands that take it, and, if jq(1) is installed, that
+# jq reads each line back to what the command prints without the option. Those of `describe` and `week` are in rows/describe.sh and
+# rows/windows.sh.
 
 json_folder=$work/json
 json_after=(--after 2024-01-01T00:00:00Z)
@@ -44,6 +45,7 @@ json_as_text() {
     def at($local; $utc): (if has($local) then .[$local] else .[$utc] end) // "none";
     if has("severity") then "\(.path)\(if .line then ":\(.line)" else "" end): \(.severity): \(.text) [\(.code)]"
     elif has("from") then [at("from_local"; "from"), at("until_local"; "until"), "\(.seconds)"] | join("\t")
+    elif has("then") then [.first, .last, "\(.starts)", .then, .job, (if has("user") then .user + " " else "" end) + .run] | join("\t")
     else [
       at("local"; "start"),
       (if has("latest") then at("latest_local"; "latest") else empty end),
@@ -147,6 +149,21 @@ json_rows 0 quiet "${day[@]}" --delays --least 30000 night.timer late.timer <<'J
 JSON
 json_rows 0 quiet "${day[@]}" --least 86401 </dev/null
 
+# What is missed in a span: one line for each job, by its first start, and then those of @reboot.
+json_rows 0 downtime "${day[@]}" --crontab jobs --system-crontab system --cron-d cron.d/php night.timer late.timer <<'JSON'
+{"first":"2024-01-01T00:00:00Z","last":"2024-01-01T00:00:00Z","starts":1,"then":"lost","job":"cron:2","run":"b"}
+{"first":"2024-01-01T00:00:00Z","last":"2024-01-01T00:00:00Z","starts":1,"then":"lost","job":"system:1","user":"root","run":"b c"}
+{"first":"2024-01-01T00:17:00Z","last":"2024-01-01T23:17:00Z","starts":24,"then":"lost","job":"php:1","user":"www-data","run":"clean"}
+{"first":"2024-01-01T02:30:00Z","last":"2024-01-01T02:30:00Z","starts":1,"then":"lost","job":"night.timer","run":"night.service"}
+{"first":"2024-01-01T12:00:00Z","last":"2024-01-01T12:00:00Z","starts":1,"then":"lost","job":"late.timer","run":"late.service"}
+{"first":"2024-01-02T00:00:00Z","last":"2024-01-02T00:00:00Z","starts":1,"then":"at boot","job":"cron:1","run":"a"}
+JSON
+json_rows 0 downtime "${day[@]}" --cron-d cron.d/users 'a\x2db.timer' <<'JSON'
+{"first":"2024-01-01T00:00:00Z","last":"2024-01-01T00:00:00Z","starts":1,"then":"lost","job":"users:1","user":"r\"o\\t\u0001\u007f","run":"é x"}
+{"first":"2024-01-01T00:00:00Z","last":"2024-01-01T00:00:00Z","starts":1,"then":"lost","job":"a\\x2db.timer","run":"x\\x2dy.target"}
+JSON
+json_rows 0 downtime "${day[@]}" never.timer empty.timer </dev/null
+
 # Findings: in a line, and about a whole file. Quotes and backslashes of a message are escaped once more.
 json_rows 1 check --crontab faulty --system-crontab latin empty.timer never.timer late.timer <<'JSON'
 {"path":"faulty","line":1,"severity":"error","code":"UnknownWord","text":"unknown word '@dayly\\x7f\\x01'"}
@@ -218,8 +235,9 @@ faulty:5: error: no command [NoCommand]
 
 json_keeps_going
 
-# The option is given once, and has no value. Two commands don't take it.
+# The option is given once, and has no value. Three commands don't take it.
 json_usage "error: the argument '--json' cannot be used multiple times" next "${json_after[@]}" --json --cron @daily --json
 json_usage "error: the argument '--json' cannot be used multiple times" check --json --json
 json_usage "error: unexpected argument '--json' found" steps script --json
 json_usage "error: unexpected argument '--json' found" explain --json
+json_usage "error: unexpected argument '--json' found" clear "${day[@]}" --json

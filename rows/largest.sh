@@ -359,12 +359,32 @@ largest_gaps() {
   done
 }
 
+# What 1,000 jobs miss that start in each of 1,000 minutes, how many start in each hour, and the first start, which needs no memory for others.
+largest_windows() {
+  local planners job upto=2024-01-01T16:40:00Z
+  for ((job = 1; job <= 1000; job++)); do
+    printf '%s\t2024-01-01T16:39:00Z\t1000\tlost\tcron:%d\tx\n' "$largest_since" "$job"
+  done >"$work/downtime.wanted"
+  awk 'BEGIN { for (hour = 0; hour < 17; hour++) printf "{\"day\":\"2024-01-01\",\"hour\":%d,\"starts\":%d}\n", hour, hour < 16 ? 60000 : 40000 }' \
+    >"$work/week.wanted"
+  for planners in 1 8; do
+    largest_run minutes 1000000 downtime --since "$largest_since" --until "$upto" --planners "$planners" --crontab minutes
+    compare "what 1,000 jobs miss by $planners planners, 1,000 starts each" "$work/downtime.wanted" /dev/null 0
+    largest_run minutes 1000000 week --json --since "$largest_since" --until "$upto" --planners "$planners" --crontab minutes
+    compare "the hours of 1,000,000 starts by $planners planners" "$work/week.wanted" /dev/null 0
+  done
+  largest_run minutes 0 clear --since "$largest_since" --until "$upto" --crontab minutes
+  compare_texts "the first of 1,000,000 starts" "$largest_since$tab$largest_since${tab}cron:1${tab}x"$'\n' '' 1
+}
+
 # The memory is really limited: 8 MB are too little for the largest agenda.
 largest_bound() {
   largest_run minutes 0 plan --since "$largest_since" --upto 2024-01-01T16:40:00Z --limit 1000000 --crontab minutes
   is_refused "1,000,000 starts without memory for them" NoMemory 3
   largest_run minutes 0 quiet --since "$largest_since" --upto 2024-01-01T16:40:00Z --crontab minutes
   is_refused "the gaps of 1,000,000 starts without memory for these" NoMemory 3
+  largest_run minutes 0 downtime --since "$largest_since" --upto 2024-01-01T16:40:00Z --crontab minutes
+  is_refused "what is missed of 1,000,000 starts without memory for these" NoMemory 3
 }
 
 largest_newlines
@@ -380,4 +400,5 @@ largest_quotes
 largest_zones
 largest_agendas
 largest_gaps
+largest_windows
 largest_bound

@@ -6,14 +6,14 @@
 . "$top/rows/lib/program.sh"
 
 # Compares standard error of the commands $1 on the present root with the lines $2, as in program_lines, and their status.
-# What they print isn't compared. Only plan, upcoming and quiet report monotonic timers. The root has the name $3, and the
-# options are the others.
+# What they print isn't compared. All but check and sources report monotonic timers. The root has the name $3, and the options
+# are the others.
 others_are() {
   local command lines=$2 name=$3 commands=$1 wanted
   shift 3
   for command in $commands; do
     case $command in
-      plan | upcoming | quiet) program_lines "$lines" ;;
+      plan | upcoming | quiet | downtime | week) program_lines "$lines" ;;
       *) program_lines "$(sed -E 's/(^|,)monotonic [^,]*//g; s/^,//' <<<"$lines")" ;;
     esac
     program_run "$command" --root "$machine_root" "$@"
@@ -64,11 +64,11 @@ home||
 ROWS
 
 # All lines in their order, after what is skipped, by each question.
-others_told 'plan upcoming quiet check sources' <<'ROWS'
+others_told 'plan upcoming quiet downtime week check sources' <<'ROWS'
 etc/anacrontab C/a.b F/atjobs/a var/spool/at/b home/ann/.config/systemd/user/a.timer root/.config/systemd/user/b.timer *a.timer U/a.timer=[Timer]\nOnBootSec=5|C/a.b bad name,anacron,monotonic U/a.timer,at F/atjobs,at var/spool/at,user home/ann/.config/systemd/user,user root/.config/systemd/user
 ROWS
 machine_has_cron=no
-others_told 'plan upcoming quiet check sources' <<'ROWS'
+others_told 'plan upcoming quiet downtime week check sources' <<'ROWS'
 etc/anacrontab C/a.b C/a F/atjobs/a root/.config/systemd/user/b.timer *a.timer U/a.timer=[Timer]\nOnBootSec=5|C/a.b bad name,anacron,monotonic U/a.timer,at F/atjobs,user root/.config/systemd/user,cron
 *a.timer U/a.timer=DAILY|
 ROWS
@@ -213,7 +213,7 @@ program_compare "a merged timer that is too large" "$work/out.wanted" "$work/err
 # ---- the status
 
 # What is skipped as not readable changes a status of 0 to 1. Nothing else that is skipped does.
-others_told 'plan upcoming quiet check sources' <<'ROWS'
+others_told 'plan upcoming quiet downtime week check sources' <<'ROWS'
 etc/crontab|
 C/a/|C/a not readable
 S/a>nowhere|S/a not readable

@@ -122,7 +122,7 @@ runs_locked() {
       chmod 000 "$machine_folder/root/$path"
     done
     program_lines "$lines"
-    for words in plan 'plan --strict' upcoming quiet check sources; do
+    for words in plan 'plan --strict' upcoming quiet downtime week check sources; do
       # shellcheck disable=SC2086
       program_run $words --root root
       cp -- "$work/out" "$work/out.wanted"
@@ -156,12 +156,13 @@ runs_streams() {
   for to in '>&-' '>/dev/full'; do
     [[ $to != *full ]] || [ -c /dev/full ] || continue
     machine_by=(bash -c "exec \"\$@\" $to" streams)
-    for words in sources 'sources --json' check 'check --json' plan 'plan --strict' upcoming quiet 'plan --table' 'quiet --json'; do
+    for words in sources 'sources --json' check 'check --json' plan 'plan --strict' upcoming quiet 'plan --table' 'quiet --json' \
+      'downtime --table' week; do
       # shellcheck disable=SC2086
       program_run $words --root root
       program_compare "$words $to" /dev/null "$work/err.wanted" 3
     done
-    for words in 'next @daily' --help {plan,upcoming,quiet,check,sources,next}' --help'; do
+    for words in 'next @daily' --help {plan,upcoming,quiet,downtime,clear,week,check,sources,next}' --help'; do
       # shellcheck disable=SC2086
       program_run $words
       program_compare "$words $to" /dev/null "$work/err.wanted" 3
@@ -212,16 +213,16 @@ runs_unreported() {
 # that is skipped; then errors, whose status stays, and none of these.
 runs_unreported <<'ROWS'
 C/a.b|sources,plan,plan --strict,plan --table --since 2024-01-01|3
-C/a/|sources,check|3
+C/a/|sources,check,downtime,clear,week|3
 etc/anacrontab|sources,check|3
 *a.timer U/a.timer=[Timer]\nOnBootSec=5|upcoming|3
 F/atjobs/a root/.config/systemd/user/a.timer|quiet|3
 etc/crontab|sources,plan|3
 etc/localtime>UTC|check,upcoming|3
 S/u=A|upcoming|3
-etc/anacrontab|plan x,sources x,--frob|2
-etc/anacrontab|quiet --since frob,plan --zone Nowhere/At_all|1
-C/.b|sources,plan --utc --since 2024-01-01,check,plan --table --utc --since 2024-01-01|0
+etc/anacrontab|plan x,sources x,clear x,--frob|2
+etc/anacrontab|quiet --since frob,plan --zone Nowhere/At_all,clear --until frob|1
+C/.b|sources,plan --utc --since 2024-01-01,check,plan --table --utc --since 2024-01-01,clear,week --since 2024-01-01 --until 2024-01-03|0
 ROWS
 
 # Standard input isn't used.

@@ -172,6 +172,131 @@ Examples:
 END
 }
 
+machine_words_make_windows_help() {
+  cat >"$machine_words_folder/downtime.text" <<'END'
+Prints what a machine misses while it is down, and what then
+
+Usage: agenda machine downtime [OPTIONS]
+
+Options:
+      --root <DIR>    Read the machine whose root directory is DIR [default: /]
+      --all           Include timers that aren't enabled
+      --since <TIME>  The start of the span, such as 'tomorrow 02:00',
+                      '2026-12-01 22:00' or +8h [default: now]
+      --until <TIME>  The end of the span, written in the same way, which
+                      isn't in it; 06:00 and +8h are counted from its
+                      start [default: +24h] [alias: --upto]
+      --zone <ZONE>   The time zone of the rules, such as Europe/Berlin,
+                      or the path of a TZif file; that of the machine
+                      if it isn't given
+      --utc           Read the rules in UTC, like --zone UTC, and print
+                      times in UTC
+      --except <JOB>  Ignore the job with this name, as it is printed;
+                      may be given more than once
+      --strict        Let an error in a file stop the answer, instead of
+                      skipping what is invalid
+      --table         Print a table, also if standard output isn't a terminal
+      --text          Print text, also on a terminal
+      --json          Print each line as a JSON object; agenda(1)
+                      describes the keys
+      --limit <N>     The maximum number of starts, from 1 to 1000000;
+                      more are an error [default: 1000000]
+  -h, --help          Print help
+
+Tuning (the output stays the same):
+      --planners <N>  How many threads search, from 1 to 8 [default: 2]
+      --room <N>      How many messages of each thread may wait,
+                      from 1 to 1024 [default: 16]
+
+Prints what 'agenda downtime' prints, about the files that 'agenda machine sources' lists.
+Times are those of the machine's clocks, with their offset from UTC. Standard error has a
+line for each file that is skipped or isn't planned, and the errors of the files. The exit
+status is 1 if there is such an error or if a file can't be read, otherwise 0.
+
+Example:
+  agenda machine downtime --since 'sat 22:00' --until 'sun 04:00'
+END
+  cat >"$machine_words_folder/clear.text" <<'END'
+Succeeds if no job of a machine starts in a span
+
+Usage: agenda machine clear [OPTIONS]
+
+Options:
+      --root <DIR>    Read the machine whose root directory is DIR [default: /]
+      --all           Include timers that aren't enabled
+      --since <TIME>  The start of the span, such as 'tomorrow 02:00',
+                      '2026-12-01 22:00' or +8h [default: now]
+      --until <TIME>  The end of the span, written in the same way, which
+                      isn't in it; 06:00 and +8h are counted from its
+                      start [default: +24h] [alias: --upto]
+      --zone <ZONE>   The time zone of the rules, such as Europe/Berlin,
+                      or the path of a TZif file; that of the machine
+                      if it isn't given
+      --utc           Read the rules in UTC, like --zone UTC, and print
+                      times in UTC
+      --except <JOB>  Ignore the job with this name, as it is printed;
+                      may be given more than once
+      --nominal       Don't count the delays of timers
+      --strict        Let an error in a file stop the answer, instead of
+                      skipping what is invalid
+  -h, --help          Print help
+
+Tuning (the output stays the same):
+      --planners <N>  How many threads search, from 1 to 8 [default: 2]
+      --room <N>      How many messages of each thread may wait,
+                      from 1 to 1024 [default: 16]
+
+Prints nothing if no start of a job may fall into the span, and the exit status is 0.
+Otherwise it prints the first one, and the exit status is 1. It is also 1 if an error is
+skipped, or if a file can't be read.
+
+Example:
+  agenda machine clear --until +90min && reboot
+END
+  cat >"$machine_words_folder/week.text" <<'END'
+Shows how many jobs of a machine start in each hour
+
+Usage: agenda machine week [OPTIONS]
+
+Options:
+      --root <DIR>    Read the machine whose root directory is DIR [default: /]
+      --all           Include timers that aren't enabled
+      --since <TIME>  The start of the span, such as 'tomorrow 02:00',
+                      '2026-12-01 22:00' or +8h [default: today]
+      --until <TIME>  The end of the span, written in the same way, which
+                      isn't in it; 06:00 and +8h are counted from its
+                      start [default: +7d] [alias: --upto]
+      --zone <ZONE>   The time zone of the rules, such as Europe/Berlin,
+                      or the path of a TZif file; that of the machine
+                      if it isn't given
+      --utc           Read the rules in UTC, like --zone UTC, and print
+                      times in UTC
+      --except <JOB>  Ignore the job with this name, as it is printed;
+                      may be given more than once
+      --strict        Let an error in a file stop the answer, instead of
+                      skipping what is invalid
+      --json          Print each line as a JSON object; agenda(1)
+                      describes the keys
+      --limit <N>     The maximum number of starts, from 1 to 1000000;
+                      more are an error [default: 1000000]
+  -h, --help          Print help
+
+Tuning (the output stays the same):
+      --planners <N>  How many threads search, from 1 to 8 [default: 2]
+      --room <N>      How many messages of each thread may wait,
+                      from 1 to 1024 [default: 16]
+
+Prints what 'agenda week' prints, about the files that 'agenda machine sources' lists, in
+the machine's time zone: a week from the start of today, if no span is given. Standard
+error has a line for each file that is skipped or isn't planned, and the errors of the
+files. The exit status is 1 if there is such an error or if a file can't be read, otherwise
+0.
+
+Example:
+  agenda machine week --since 'mon' --until '+7d'
+END
+}
+
 # Each row has a text and words that ask for it.
 machine_words_tell_help() {
   local text words
@@ -192,6 +317,12 @@ next next|--help
 next next|daily|--utc|-h
 describe describe|--help
 describe describe|daily|--root|none|-h
+downtime downtime|--help
+downtime downtime|--since|x|--utc|--table|-h
+clear clear|--help
+clear clear|--root|none|--nominal|-h
+week week|--help
+week week|--until|x|--zone|Nowhere/City|-h
 END
 }
 
@@ -227,6 +358,13 @@ Usage: agenda machine plan [OPTIONS]
 
 For more information, try '--help'.
 END
+  machine_words_tell_usage 'clear|tomorrow' <<'END'
+error: unexpected argument 'tomorrow' (for a time, use --since or --until)
+
+Usage: agenda machine clear [OPTIONS]
+
+For more information, try '--help'.
+END
   machine_words_tell_usage 'next|daily|tomorrow' <<'END'
 error: unexpected argument 'tomorrow' (for a time, use --after)
 
@@ -235,21 +373,22 @@ Usage: agenda machine next [OPTIONS] <RULE>
 For more information, try '--help'.
 END
   for words in 'check|--zone|Europe/Berlin|--utc' 'check|--utc|--root=none|--zone=UTC' 'check|--utc|--zone=' '--utc|--zone=UTC' \
-    'upcoming|--utc|--zone=UTC' 'plan|--utc|--zone=UTC' 'quiet|--utc|--zone=UTC' 'next|daily|--utc|--zone=UTC' 'describe|--utc|--zone=UTC' 'describe|daily|--utc|--zone=UTC'; do
+    'upcoming|--utc|--zone=UTC' 'plan|--utc|--zone=UTC' 'quiet|--utc|--zone=UTC' 'next|daily|--utc|--zone=UTC' 'describe|--utc|--zone=UTC' 'describe|daily|--utc|--zone=UTC' \
+    'downtime|--utc|--zone=UTC' 'clear|--utc|--zone=UTC' 'week|--zone=UTC|--utc'; do
     machine_words_tell_usage "$words" <<'END'
 error: the argument '--zone <ZONE>' cannot be used with '--utc'
 
 For more information, try '--help'.
 END
   done
-  for words in '--table|--text' 'plan|--text|--json|--table' 'quiet|--text|--table' 'next|daily|--table|--text' 'describe|daily|--table|--text'; do
+  for words in '--table|--text' 'plan|--text|--json|--table' 'quiet|--text|--table' 'downtime|--table|--text' 'next|daily|--table|--text' 'describe|daily|--table|--text'; do
     machine_words_tell_usage "$words" <<'END'
 error: the argument '--table' cannot be used with '--text'
 
 For more information, try '--help'.
 END
   done
-  for words in 'upcoming|--json|--table' 'next|--json|daily|--table' 'describe|--json|--table'; do
+  for words in 'upcoming|--json|--table' 'downtime|--table|--json' 'next|--json|daily|--table' 'describe|--json|--table'; do
     machine_words_tell_usage "$words" <<'END'
 error: the argument '--table' cannot be used with '--json'
 
@@ -354,6 +493,55 @@ check|--table => error: unexpected argument '--table' found
 sources|--text => error: unexpected argument '--text' found
 plan|--table|--table => error: the argument '--table' cannot be used multiple times
 quiet|--text=yes => error: unexpected value 'yes' for '--text' found; no more were expected
+downtime|sat 22:00 => error: unexpected argument 'sat 22:00' (for a time, use --since or --until)
+downtime|--since|now|tomorrow => error: unexpected argument 'tomorrow' (for a time, use --since or --until)
+downtime|--|+8h => error: unexpected argument '+8h' (for a time, use --since or --until)
+downtime|a.timer => error: unexpected argument 'a.timer' (for a time, use --since or --until)
+downtime|--since => error: a value is required for '--since <TIME>' but none was supplied
+downtime|--since=x|--since=y => error: the argument '--since <TIME>' cannot be used multiple times
+downtime|--until=x|--upto=x => error: the argument '--until <TIME>' cannot be used multiple times
+downtime|--after=x => error: unexpected argument '--after' found
+downtime|--least=1 => error: unexpected argument '--least' found
+downtime|--delays => error: unexpected argument '--delays' found
+downtime|--nominal => error: unexpected argument '--nominal' found
+downtime|--local => error: unexpected argument '--local' found
+downtime|--keep-going => error: unexpected argument '--keep-going' found
+downtime|--event-zones => error: unexpected argument '--event-zones' found
+downtime|--crontab=a => error: unexpected argument '--crontab' found
+downtime|--limit=x => error: invalid value 'x' for '--limit <N>': invalid digit found in string
+downtime|--except => error: a value is required for '--except <JOB>' but none was supplied
+downtime|--strict|--strict => error: the argument '--strict' cannot be used multiple times
+downtime|--version => error: unexpected argument '--version' found
+clear|+90min => error: unexpected argument '+90min' (for a time, use --since or --until)
+clear|--until|+8h|sun => error: unexpected argument 'sun' (for a time, use --since or --until)
+clear|--until=x|--upto=x => error: the argument '--until <TIME>' cannot be used multiple times
+clear|--since=x|--since=y => error: the argument '--since <TIME>' cannot be used multiple times
+clear|--delays => error: unexpected argument '--delays' found
+clear|--limit=1 => error: unexpected argument '--limit' found
+clear|--json => error: unexpected argument '--json' found
+clear|--table => error: unexpected argument '--table' found
+clear|--text => error: unexpected argument '--text' found
+clear|--local => error: unexpected argument '--local' found
+clear|--nominal|--nominal => error: the argument '--nominal' cannot be used multiple times
+clear|--nominal=yes => error: unexpected value 'yes' for '--nominal' found; no more were expected
+clear|--planners=x => error: invalid value 'x' for '--planners <N>': invalid digit found in string
+clear|--keep-going => error: unexpected argument '--keep-going' found
+clear|--version => error: unexpected argument '--version' found
+week|mon => error: unexpected argument 'mon' (for a time, use --since or --until)
+week|--since|mon|sun => error: unexpected argument 'sun' (for a time, use --since or --until)
+week|--until=x|--upto=x => error: the argument '--until <TIME>' cannot be used multiple times
+week|--since=x|--since=y => error: the argument '--since <TIME>' cannot be used multiple times
+week|--delays => error: unexpected argument '--delays' found
+week|--nominal => error: unexpected argument '--nominal' found
+week|--table => error: unexpected argument '--table' found
+week|--text => error: unexpected argument '--text' found
+week|--local => error: unexpected argument '--local' found
+week|--json|--json => error: the argument '--json' cannot be used multiple times
+week|--limit=4294967296 => error: invalid value '4294967296' for '--limit <N>': 4294967296 is not in 0..=4294967295
+week|--room=-1 => error: invalid value '-1' for '--room <N>': -1 is not in 0..=4294967295
+week|--version => error: unexpected argument '--version' found
+Downtime => error: unrecognized subcommand 'Downtime'
+--nominal => error: unexpected argument '--nominal' found
 next => error: the following required arguments were not provided:
 next|daily|weekly => error: unexpected argument 'weekly' (for a time, use --after)
 next|daily|--count|2|tomorrow => error: unexpected argument 'tomorrow' (for a time, use --after)
@@ -396,6 +584,7 @@ END
 mkdir -p "$machine_words_folder"
 machine_words_make_help
 machine_words_make_answers_help
+machine_words_make_windows_help
 machine_words_tell_help
 machine_words_tell_usages
 machine_words_begin_usage

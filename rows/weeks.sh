@@ -1,52 +1,13 @@
 # shellcheck shell=bash disable=SC2154
-# Rows of bin/check-examples: a week as text, by examples/week-text/week.awk, and as a picture, by
-# examples/week-picture/week.gnuplot. The cells of both pictures are read and compared with the counts of the
-# rows: the numbers in week.svg, and the colours in week.svg and week.png.
+# Rows of bin/check-examples: a week as a picture, by examples/week-picture/week.gnuplot. The cells of both
+# pictures are read and compared with the counts of the rows: the numbers in week.svg, and the colours in week.svg
+# and week.png. `agenda week --json` has the same counts. rows/windows.sh has more rows of `agenda week`.
 
 weeks_folder="$work/weeks"
 mkdir "$weeks_folder"
-cp -- "$top/examples/week-text/week.awk" "$top"/examples/week-picture/{crontab,etc-crontab,mirror.timer,week.gnuplot} "$weeks_folder"
+cp -- "$top"/examples/week-picture/{crontab,etc-crontab,mirror.timer,week.gnuplot} "$weeks_folder"
 weeks_since="2024-06-03T00:00:00Z"
 weeks_upto="2024-06-10T00:00:00Z"
-
-# Rows of a span, and of its days in the text with their counts. The job starts at 00:00 and at 12:00.
-weeks_days() {
-  local since upto days
-  printf '0 0,12 * * * a\n' >"$weeks_folder/noons"
-  while IFS='|' read -r since upto days; do
-    # shellcheck disable=SC2016
-    run_in "$weeks_folder" bash -c 'agenda plan --since "$0" --upto "$1" --crontab noons | awk -f week.awk | tail -n +3 |
-      awk "{ print \$1, \$2, \$NF }"' "$since" "$upto"
-    compare_texts "the days as text from $since to $upto" "${days//;/$'\n'}"$'\n' '' 0
-  done
-}
-
-# 2024 and 2000 have a leap day, 2100 has none. The weekdays are those of a calendar. A day counts from its
-# start in the span to its end in the span.
-weeks_days <<'ROWS'
-2024-02-28T00:00:00Z|2024-03-02T00:00:00Z|Wed 2024-02-28 2;Thu 2024-02-29 2;Fri 2024-03-01 2;all days 6
-2023-02-28T00:00:00Z|2023-03-02T00:00:00Z|Tue 2023-02-28 2;Wed 2023-03-01 2;all days 4
-2000-02-28T00:00:00Z|2000-03-02T00:00:00Z|Mon 2000-02-28 2;Tue 2000-02-29 2;Wed 2000-03-01 2;all days 6
-2100-02-28T00:00:00Z|2100-03-02T00:00:00Z|Sun 2100-02-28 2;Mon 2100-03-01 2;all days 4
-1999-12-31T00:00:00Z|2000-01-02T00:00:00Z|Fri 1999-12-31 2;Sat 2000-01-01 2;all days 4
-2024-04-30T00:00:00Z|2024-05-02T00:00:00Z|Tue 2024-04-30 2;Wed 2024-05-01 2;all days 4
-1970-01-01T00:00:00Z|1970-01-02T00:00:00Z|Thu 1970-01-01 2;all days 2
-2999-12-31T00:00:00Z|3000-01-01T00:00:00Z|Tue 2999-12-31 2;all days 2
-2024-06-03T06:00:00Z|2024-06-05T12:00:01Z|Mon 2024-06-03 1;Tue 2024-06-04 2;Wed 2024-06-05 2;all days 5
-2024-06-03T00:00:01Z|2024-06-05T00:00:00Z|Mon 2024-06-03 1;Tue 2024-06-04 2;all days 3
-2024-06-03T13:00:00Z|2024-06-03T14:00:00Z|Mon 2024-06-03 0;all days 0
-2024-06-03T00:00:00Z|2024-06-03T00:00:00Z|all days 0
-ROWS
-
-# A digit up to 9, and then #, and a dot if nothing starts. Without an agenda nothing is printed, and the
-# status isn't 0.
-weeks_marks() {
-  printf '0-8 0 * * * a\n0-9 1 * * * a\n0 23 * * * a\n' >"$weeks_folder/marks"
-  run_in "$weeks_folder" bash -c "agenda plan ${day[*]} --crontab marks | awk -f week.awk | tail -n 1"
-  compare_texts "the marks of 9 and of 10 starts" "all days        9 # . . . . . . . . . . . . . . . . . . . . . 1     20"$'\n' '' 0
-  run_in "$weeks_folder" awk -f week.awk
-  compare_texts "no agenda as text" '' '' 1
-}
 
 # Writes the cells of week.svg, one line for each day: the number in the cell and its colour, as three numbers
 # with commas between them.
@@ -139,12 +100,27 @@ weeks_draw() {
   weeks_png >"$weeks_folder/png"
 }
 
+# Writes the counts that the objects of `agenda week --json` on standard input have, one line for each day.
+weeks_counts() {
+  awk -F '[":,{}]+' -v first="${weeks_since:8:2}" '
+    { starts[substr($3, 9) - first, $5] = $7 }
+    END {
+      for (d = 0; d < 7; d++)
+        for (h = 0; h < 24; h++) printf "%d%s", starts[d, h], (h < 23 ? " " : "\n")
+    }'
+}
+
 # The pictures of the week in which the arguments from $2 on start something have the counts on standard
-# input, one line for each day.
+# input, one line for each day. `agenda week` has the same.
 weeks_drawn() {
   local name=$1
   shift
-  weeks_cells >"$weeks_folder/cells"
+  cat >"$weeks_folder/counts"
+  run_in "$weeks_folder" agenda week --json --since "$weeks_since" --until "$weeks_upto" "$@"
+  weeks_counts <"$work/out" >"$weeks_folder/counted"
+  mv -- "$weeks_folder/counted" "$work/out"
+  compare "the hours of $name" "$weeks_folder/counts" /dev/null 0
+  weeks_cells <"$weeks_folder/counts" >"$weeks_folder/cells"
   sed 's/[0-9]*://g' "$weeks_folder/cells" >"$weeks_folder/colours"
   run_in "$weeks_folder" agenda plan --json --since "$weeks_since" --upto "$weeks_upto" "$@"
   cp -- "$work/out" "$weeks_folder/week.json"
@@ -214,5 +190,4 @@ COUNTS
 COUNTS
 }
 
-weeks_marks
 weeks_pictures

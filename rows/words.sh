@@ -38,6 +38,9 @@ Commands:
   plan      Prints every start of crontabs and timers in a span of time
   upcoming  Prints when each job of crontabs and timers starts next
   quiet     Prints the gaps in which no job of crontabs and timers starts
+  downtime  Prints what a machine misses while it is down, and what then
+  clear     Succeeds if no job of crontabs and timers starts in a span
+  week      Shows how many jobs start in each hour of a span
   check     Prints errors and likely mistakes in crontabs and timers
   describe  Says in words when a rule or each job starts
   machine   Answers questions about a machine's crontabs and timers
@@ -250,6 +253,147 @@ Example:
 END
 }
 
+words_make_help_of_downtime() {
+  cat >"$work/words/downtime.text" <<'END'
+Prints what a machine misses while it is down, and what then
+
+Usage: agenda downtime [OPTIONS] --since <T> --upto <T> [TIMER]...
+
+Arguments:
+  [TIMER]...  A systemd timer file, such as backup.timer
+
+Options:
+      --since <T>           The start of the span, in UTC, such as
+                            2024-01-01T00:00:00Z; the years are 1970 to 2999
+      --upto <T>            The end of the span, written in the same way; a start
+                            at this time isn't included [alias: --until]
+      --zone <ZONE>         The time zone of the rules, such as Europe/Berlin,
+                            or the path of a TZif file; UTC if it isn't given
+      --event-zones         Read events that end with a time zone, such as
+                            'Mon..Fri 09:00 Europe/Berlin'
+      --keep-going          Skip what is invalid or can't be read, and report it
+      --json                Print each line as a JSON object; agenda(1)
+                            describes the keys
+      --crontab <F>         A user's crontab, as 'crontab -l' prints it
+      --system-crontab <F>  A crontab whose lines name a user, such as
+                            /etc/crontab
+      --cron-d <F>          A package's crontab, such as /etc/cron.d/php;
+                            may be given more than once
+      --spool <F>           A user's crontab in the spool directory;
+                            may be given more than once
+      --limit <N>           The maximum number of starts, from 1 to 1000000;
+                            more are an error [default: 1000000]
+  -h, --help                Print help
+
+Tuning (the output stays the same):
+      --planners <N>  How many threads search, from 1 to 8 [default: 2]
+      --room <N>      How many messages of each thread may wait,
+                      from 1 to 1024 [default: 16]
+
+Prints a line for each job with a start in the span, delays included: the time of its first
+start and of its last one, the number of its starts, what happens to them, the job's name
+and what it runs, separated by tabs. 'lost' is missed for good, 'made up' starts once after
+the end of the span (Persistent=), and 'at boot' is a job of @reboot. Lines are sorted by
+the first start, then by job. agenda(1) describes the formats of the files.
+
+Example:
+  agenda downtime --since 2024-06-01T22:00:00Z --until 2024-06-02T04:00:00Z \
+    --crontab jobs backup.timer
+END
+}
+
+words_make_help_of_clear() {
+  cat >"$work/words/clear.text" <<'END'
+Succeeds if no job of crontabs and timers starts in a span
+
+Usage: agenda clear [OPTIONS] --since <T> --upto <T> [TIMER]...
+
+Arguments:
+  [TIMER]...  A systemd timer file, such as backup.timer
+
+Options:
+      --since <T>           The start of the span, in UTC, such as
+                            2024-01-01T00:00:00Z; the years are 1970 to 2999
+      --upto <T>            The end of the span, written in the same way; a start
+                            at this time isn't included [alias: --until]
+      --zone <ZONE>         The time zone of the rules, such as Europe/Berlin,
+                            or the path of a TZif file; UTC if it isn't given
+      --event-zones         Read events that end with a time zone, such as
+                            'Mon..Fri 09:00 Europe/Berlin'
+      --keep-going          Skip what is invalid or can't be read, and report it
+      --nominal             Don't count the delays of timers
+      --local               Print times in the time zone of --zone, such as
+                            2024-03-31T03:00:00+02:00
+      --crontab <F>         A user's crontab, as 'crontab -l' prints it
+      --system-crontab <F>  A crontab whose lines name a user, such as
+                            /etc/crontab
+      --cron-d <F>          A package's crontab, such as /etc/cron.d/php;
+                            may be given more than once
+      --spool <F>           A user's crontab in the spool directory;
+                            may be given more than once
+  -h, --help                Print help
+
+Tuning (the output stays the same):
+      --planners <N>  How many threads search, from 1 to 8 [default: 2]
+      --room <N>      How many messages of each thread may wait,
+                      from 1 to 1024 [default: 16]
+
+Prints nothing if no start may fall into the span, and the exit status is 0. Otherwise it
+prints the first one, as plan --delays prints it, and the exit status is 1. What can't be
+read or is invalid is an error, never status 0.
+
+Example:
+  agenda clear --since 2024-06-01T22:00:00Z --until 2024-06-01T23:30:00Z backup.timer
+END
+}
+
+words_make_help_of_week() {
+  cat >"$work/words/week.text" <<'END'
+Shows how many jobs start in each hour of a span
+
+Usage: agenda week [OPTIONS] --since <T> --upto <T> [TIMER]...
+
+Arguments:
+  [TIMER]...  A systemd timer file, such as backup.timer
+
+Options:
+      --since <T>           The start of the span, in UTC, such as
+                            2024-01-01T00:00:00Z; the years are 1970 to 2999
+      --upto <T>            The end of the span, written in the same way; a start
+                            at this time isn't included [alias: --until]
+      --zone <ZONE>         The time zone of the rules, such as Europe/Berlin,
+                            or the path of a TZif file; UTC if it isn't given
+      --event-zones         Read events that end with a time zone, such as
+                            'Mon..Fri 09:00 Europe/Berlin'
+      --keep-going          Skip what is invalid or can't be read, and report it
+      --json                Print each line as a JSON object; agenda(1)
+                            describes the keys
+      --crontab <F>         A user's crontab, as 'crontab -l' prints it
+      --system-crontab <F>  A crontab whose lines name a user, such as
+                            /etc/crontab
+      --cron-d <F>          A package's crontab, such as /etc/cron.d/php;
+                            may be given more than once
+      --spool <F>           A user's crontab in the spool directory;
+                            may be given more than once
+      --limit <N>           The maximum number of starts, from 1 to 1000000;
+                            more are an error [default: 1000000]
+  -h, --help                Print help
+
+Tuning (the output stays the same):
+      --planners <N>  How many threads search, from 1 to 8 [default: 2]
+      --room <N>      How many messages of each thread may wait,
+                      from 1 to 1024 [default: 16]
+
+Prints a row for each day and a column for each hour, as the clock of --zone shows them: '.'
+for no start, 1 to 9, and '#' for 10 or more. A row ends with the sum of its day, and the
+last row has the sums of all days. With --json, prints an object for each hour that has a
+start.
+
+Example:
+  agenda week --since 2024-05-27T00:00:00Z --until 2024-06-03T00:00:00Z --crontab jobs
+END
+}
+
 words_make_help_of_check() {
   cat >"$work/words/check.text" <<'END'
 Prints errors and likely mistakes in crontabs and timers
@@ -343,6 +487,9 @@ Commands:
   upcoming  Prints when each job of a machine starts next
   plan      Prints every start of a machine's jobs in a span of time
   quiet     Prints the gaps in which no job of a machine starts
+  downtime  Prints what a machine misses while it is down, and what then
+  clear     Succeeds if no job of a machine starts in a span
+  week      Shows how many jobs of a machine start in each hour
   check     Prints errors and likely mistakes in a machine's crontabs and timers
   sources   Lists a machine's crontabs and timers
   next      Prints the next starts of a rule by the machine's clock
@@ -440,6 +587,15 @@ upcoming upcoming|--after|2024-01-01T00:00:00Z|-h
 quiet quiet|--help
 quiet quiet|-h
 quiet quiet|--since|2024-01-01T00:00:00Z|--least|0|-h
+downtime downtime|--help
+downtime downtime|-h
+downtime downtime|--since|2024-01-01T00:00:00Z|--limit|0|-h
+clear clear|--help
+clear clear|-h
+clear clear|--nominal|--until|2024-01-01T00:00:00Z|-h
+week week|--help
+week week|-h
+week week|--zone|Nowhere/City|-h
 check check|--help
 check check|-h
 check check|--crontab|nothing|nothing|-h
@@ -467,7 +623,7 @@ words_tell_usage() {
 words_tell_usage_of_agenda() {
   words_tell_usage '' <<'END'
 error: 'agenda' requires a subcommand but one was not provided
-  [subcommands: next, plan, upcoming, quiet, check, describe, machine, steps, explain]
+  [subcommands: next, plan, upcoming, quiet, downtime, clear, week, check, describe, machine, steps, explain]
 
 Usage: agenda <COMMAND>
 
@@ -517,6 +673,14 @@ END
     'next|--after|2024-01-01T00:00:00Z|--cron|30 4 1,15 * 5|--calendar|daily'; do
     words_tell_usage "$words" <<<'exactly one of --cron and --calendar'
   done
+  words_tell_usage 'clear|--until|2024-01-01T00:00:00Z|a.timer' <<'END'
+error: the following required arguments were not provided:
+  --since <T>
+
+Usage: agenda clear --since <T> --upto <T> <TIMER>...
+
+For more information, try '--help'.
+END
   words_tell_usage 'check|--since|2024-01-01T00:00:00Z|a.timer' <<'END'
 error: unexpected argument '--since' found
 
@@ -660,6 +824,63 @@ quiet|$span|--version => error: unexpected argument '--version' found
 END
 }
 
+# What downtime, clear and week don't take, among it what plan takes: delays always count or never do, and only clear has local times.
+words_begin_usage_of_windows() {
+  local span="--since|2024-01-01T00:00:00Z|--upto|2024-01-02T00:00:00Z" command
+  local missing="error: the following required arguments were not provided:"
+  for command in downtime clear week; do
+    words_begin_usage <<END
+$command => $missing\n  --since <T>\n  --upto <T>
+$command|--since|x|a.timer => $missing\n  --upto <T>
+$command|--upto|2024-01-02T00:00:00Z => $missing\n  --since <T>
+$command|--until|2024-01-02T00:00:00Z => $missing\n  --since <T>
+$command|--since=x|--until => error: a value is required for '--upto <T>' but none was supplied
+$command|$span|--since=x => error: the argument '--since <T>' cannot be used multiple times
+$command|$span|--upto=x => error: the argument '--upto <T>' cannot be used multiple times
+$command|$span|--until=x => error: the argument '--upto <T>' cannot be used multiple times
+$command|$span|--after=x => error: unexpected argument '--after' found
+$command|$span|--count=1 => error: unexpected argument '--count' found
+$command|$span|--least=1 => error: unexpected argument '--least' found
+$command|$span|--delays => error: unexpected argument '--delays' found
+$command|$span|--table => error: unexpected argument '--table' found
+$command|$span|--utc => error: unexpected argument '--utc' found
+$command|$span|--except=a => error: unexpected argument '--except' found
+$command|$span|--cron=@daily => error: unexpected argument '--cron' found
+$command|$span|--calendar=daily => error: unexpected argument '--calendar' found
+$command|$span|--version => error: unexpected argument '--version' found
+$command|$span|--planners=x => error: invalid value 'x' for '--planners <N>': invalid digit found in string
+$command|$span|--room=-1 => error: invalid value '-1' for '--room <N>': -1 is not in 0..=4294967295
+$command|$span|--zone => error: a value is required for '--zone <ZONE>' but none was supplied
+$command|$span|--zone=UTC|--zone=UTC => error: the argument '--zone <ZONE>' cannot be used multiple times
+$command|$span|--event-zones|--event-zones => error: the argument '--event-zones' cannot be used multiple times
+$command|$span|--keep-going=yes => error: unexpected value 'yes' for '--keep-going' found; no more were expected
+$command|$span|--crontab=a|--crontab=b => error: the argument '--crontab <F>' cannot be used multiple times
+$command|$span|--cron-d => error: a value is required for '--cron-d <F>' but none was supplied
+$command|$span|--spool=a|--spool => error: a value is required for '--spool <F>' but none was supplied
+END
+  done
+  for command in downtime week; do
+    words_begin_usage <<END
+$command|$span|--limit=4294967296 => error: invalid value '4294967296' for '--limit <N>': 4294967296 is not in 0..=4294967295
+$command|$span|--limit=1|--limit=1 => error: the argument '--limit <N>' cannot be used multiple times
+$command|$span|--json|--json => error: the argument '--json' cannot be used multiple times
+$command|$span|--json=yes => error: unexpected value 'yes' for '--json' found; no more were expected
+$command|$span|--nominal => error: unexpected argument '--nominal' found
+$command|$span|--local => error: unexpected argument '--local' found
+END
+  done
+  words_begin_usage <<END
+clear|$span|--limit=1 => error: unexpected argument '--limit' found
+clear|$span|--json => error: unexpected argument '--json' found
+clear|$span|--nominal|--nominal => error: the argument '--nominal' cannot be used multiple times
+clear|$span|--nominal=yes => error: unexpected value 'yes' for '--nominal' found; no more were expected
+clear|$span|--local|--local => error: the argument '--local' cannot be used multiple times
+plan|$span|--nominal => error: unexpected argument '--nominal' found
+downtimes => error: unrecognized subcommand 'downtimes'
+Clear => error: unrecognized subcommand 'Clear'
+END
+}
+
 # What describe doesn't take: a moment, a span, delays, local times, sizes and limits.
 words_begin_usage_of_describe() {
   words_begin_usage <<END
@@ -778,6 +999,29 @@ quiet|$span|--least=4294967295|--limit=0 => 1 plan: BadLimit
 quiet|$span|--least=4294967295|--planners=9 => 1 plan: BadSize
 quiet|$span|--least=1|--limit|1|b.timer => 1 plan: TooMany
 quiet|$span|--crontab|jobs|--system-crontab|etc/crontab|--planners|3|--room|4|--limit|4|b.timer|a.timer => 1 plan: TooMany
+downtime|--planners=0|--room=4294967295|--limit=007|--since=x|--until=y => 1 since: BadForm
+downtime|--since=2024-01-01T00:00:00Z|a|b|--until=|a|--|--limit => 1 upto: BadForm
+downtime|$span|--|--limit => 1 --limit: line 0: BadTimerName
+downtime|$span|--|-- => 3 --: Device
+downtime|$span|--limit=0 => 1 plan: BadLimit
+downtime|$span|--limit=1000001 => 1 plan: BadLimit
+downtime|$span|--planners=9 => 1 plan: BadSize
+downtime|$span|--room=1025 => 1 plan: BadSize
+downtime|$span|--crontab|jobs|--system-crontab|etc/crontab|--planners|3|--room|4|--limit|4|b.timer|a.timer => 1 plan: TooMany
+clear|--planners=0|--room=4294967295|--since=x|--until=y => 1 since: BadForm
+clear|--since=2024-01-01T00:00:00Z|a|b|--until=|a|--|--limit => 1 upto: BadForm
+clear|$span|--|--limit => 1 --limit: line 0: BadTimerName
+clear|$span|--|--nominal => 3 --nominal: Device
+clear|$span|--planners=65537 => 1 plan: BadSize
+clear|$span|--room=0 => 1 plan: BadSize
+week|--planners=0|--room=4294967295|--limit=007|--since=x|--until=y => 1 since: BadForm
+week|--since=2024-01-01T00:00:00Z|a|b|--until=|a|--|--limit => 1 upto: BadForm
+week|$span|--|--limit => 1 --limit: line 0: BadTimerName
+week|$span|--|-- => 3 --: Device
+week|$span|--limit=4294967295 => 1 plan: BadLimit
+week|$span|--planners=0 => 1 plan: BadSize
+week|$span|--room=65537 => 1 plan: BadSize
+week|$span|--crontab|jobs|--system-crontab|etc/crontab|--planners|3|--room|4|--limit|4|b.timer|a.timer => 1 plan: TooMany
 END
 }
 
@@ -918,6 +1162,44 @@ END
 END
 }
 
+# Each option and each place of `downtime` and `week` is read as that of `quiet`. b.timer starts at 00:00 and at 12:00, and may start a minute
+# later.
+words_ask_for_downtime_and_week() {
+  local start="2024-01-01T00:00:00Z" noon="2024-01-01T12:00:00Z" words
+  local span="--since|$start|--upto|2024-01-02T00:00:00Z"
+  words_ask_for_text "downtime|$span" </dev/null
+  words_ask_for_text "downtime|$span|--crontab|jobs" <<<"$start|$start|1|lost|cron:1|root says jobs"
+  words_ask_for_text "downtime|b.timer|--system-crontab=etc/crontab|--since=$start|--until=$noon|--|--limit.timer" <<END
+$start|$start|1|lost|system:1|root says etc/crontab
+$start|$start|1|lost|b.timer|b.service
+$start|$start|1|lost|--limit.timer|--limit.service
+END
+  for words in '--planners|1|--room|1' '--planners=8|--room=1024' '--limit=2' '--limit|1000000|--planners=8|--room=9'; do
+    words_ask_for_text "downtime|$words|$span|b.timer" <<<"$start|$noon|2|lost|b.timer|b.service"
+    words_ask_for_text "week|$words|--json|$span|b.timer" <<END
+{"day":"2024-01-01","hour":0,"starts":1}
+{"day":"2024-01-01","hour":12,"starts":1}
+END
+  done
+  words_ask_for_text "week|--json|--until|$noon|--since|$start|b.timer|--|--limit.timer" <<<'{"day":"2024-01-01","hour":0,"starts":2}'
+}
+
+# The word after `--nominal` is not a value of it: here it is a timer or another option. A start at 12:00 may fall up to 12:01.
+words_ask_for_clear() {
+  local noon="2024-01-01T12:00:00Z" latest="2024-01-01T12:01:00Z" words
+  for words in '' '--planners|1|--room|1|' '--planners=8|--room=1024|'; do
+    printf '%s\t%s\tb.timer\tb.service\n' "$noon" "$latest" >"$work/words/answer"
+    words_run "clear|$words--since|$noon|b.timer|--until|2024-01-01T13:00:00Z"
+    compare "words: clear|$words" "$work/words/answer" /dev/null 1
+    printf '%s\tb.timer\tb.service\n' "$noon" >"$work/words/answer"
+    words_run "clear|$words--nominal|b.timer|--since=$noon|--upto=2024-01-01T13:00:00Z"
+    compare "words: clear|$words--nominal" "$work/words/answer" /dev/null 1
+  done
+  words_ask_for_text "clear|--since|2024-01-01T12:00:30Z|--upto|2024-01-01T13:00:00Z|--nominal|b.timer" </dev/null
+  words_ask_for_text "clear|b.timer|--since|2024-01-01T12:01:01Z|--until|2024-01-01T13:00:00Z" </dev/null
+  words_ask_for_text "clear|--since|2024-01-01T12:01:01Z|--until|2024-01-02T00:00:00Z|--|--limit.timer" </dev/null
+}
+
 # The words $1 ask for what is wrong with the files, which is that of standard input.
 words_ask_for_findings() {
   cat >"$work/words/answer"
@@ -975,6 +1257,9 @@ words_make_help_of_next
 words_make_help_of_plan
 words_make_help_of_upcoming
 words_make_help_of_quiet
+words_make_help_of_downtime
+words_make_help_of_clear
+words_make_help_of_week
 words_make_help_of_check
 words_make_help_of_describe
 words_make_help_of_machine
@@ -987,6 +1272,7 @@ words_tell_usage_of_commands
 words_begin_usage_of_agenda_next_steps_and_explain
 words_begin_usage_of_plan
 words_begin_usage_of_upcoming_and_quiet
+words_begin_usage_of_windows
 words_begin_usage_of_check
 words_begin_usage_of_describe
 words_ask_for_starts
@@ -998,6 +1284,8 @@ words_ask_for_upcoming
 words_ask_for_quiet
 words_ask_for_until
 words_ask_for_delays
+words_ask_for_downtime_and_week
+words_ask_for_clear
 words_ask_for_check
 words_ask_for_sizes
 words_ask_for_limit 10000 ''

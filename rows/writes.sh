@@ -86,6 +86,9 @@ steps|script>1>script: line 2: BadLine
 plan|--crontab|nothing>3>nothing: Device
 upcoming|--after|2024-01-01T00:00:00Z|--crontab|crontab>1>crontab: line 2: NoCommand
 quiet|--since|2024-01-01T00:00:00Z|--upto|2024-01-02T00:00:00Z|--least|0>1>quiet: BadLeast
+downtime|--since|2024-01-01T00:00:00Z|--until|2024-01-02T00:00:00Z|d.timer|--limit|0>1>plan: BadLimit
+clear|--since|2024-01-01T00:00:00Z|--until|2024-01-02T00:00:00Z|--crontab|nothing>3>nothing: Device
+week|--since|2024-01-01T00:00:00Z|--until|2024-01-02T00:00:00Z|d.timer|d.timer>1>job d.timer: SameName
 check|d.timer|nothing>3>nothing: Device
 ROWS
   writes_run agenda check --crontab crontab --system-crontab system faulty.timer none.timer

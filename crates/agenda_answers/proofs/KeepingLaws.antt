@@ -18,12 +18,13 @@ use Rattle.agenda_faults.specs.declared.faults.RunFault.TheVariants.{NoMemory}
 use Rattle.agenda_faults.specs.Faults.{fault_of_sources}
 use Rattle.agenda_commands.specs.declared.Goal.{Goal}
 use Rattle.agenda_commands.specs.Command.{step}
-use Rattle.agenda_commands.specs.Goal.{AnswersGoal}
+use Rattle.agenda_commands.specs.Goal.{AnswersGoal, finds_in}
+use Rattle.plan_rules.specs.Job.{JobParts}
 use Rattle.agenda_commands.specs.Prepare.{jobs_or}
 use Rattle.agenda_inputs.specs.declared.Tried.{Tried}
 use Rattle.agenda_inputs.specs.EventZones.{found_by, found_zones, is_given, zones_by}
 use Rattle.agenda_inputs.specs.Files.{Held}
-use Rattle.agenda_answers.specs.Outcome.{Outcome, answer_of, outcome_by, skipped_status}
+use Rattle.agenda_answers.specs.Outcome.{Outcome, answer_of, has_found, found_status, outcome_by, skipped_status}
 use Rattle.agenda_answers.specs.Program.{ChangesNothing, SkipsNothing}
 use Rattle.agenda_answers.specs.Requests.{request_of, stopping}
 use Rattle.agenda_inputs.specs.Sources.{input_of, tries_of, with_first}
@@ -110,14 +111,14 @@ abbrev pub KeepsAll : Type 0
 KeepsAll = (zones : TimeZones) → (sources : List Source) → sources_errors zones sources ≡ [] →
     jobs_reading zones sources ≡ Ok (kept_jobs zones sources)
 
--- the outcome with these errors
-abbrev outcome_with : Tried → Result (List ℕ) RunFault → List Found → Outcome
-outcome_with tried answer errors = record {
+-- the outcome for jobs with these errors
+abbrev outcome_with : Goal → Tried → Result (List ℕ) RunFault → Result (List JobParts) RunFault → List Found → Outcome
+outcome_with goal tried answer jobs errors = record {
   unread = tried.unread;
   paths = tried.paths;
   errors = errors;
   answer = answer;
-  status = skipped_status tried.unread errors;
+  status = found_status (has_found answer (finds_in goal jobs)) (skipped_status tried.unread errors);
 }
 
 same_outcome :
@@ -125,7 +126,7 @@ same_outcome :
     SkipsNothing end → outcome_by false held goal jobs end
 same_outcome law held goal jobs (Ok kept)
     (goes (tried, zones) read (goes format made (goes (errors, left) found (goes answer is same)))) none =
-    let all : kept ≡ outcome_with tried answer errors = cc in
+    let all : kept ≡ outcome_with goal tried answer (jobs_or left zones tried.sources) errors = cc in
     let no_errors : errors ≡ [] = sym (ap (λ k. k.errors) all) ∙ none.1 in
     let all_kept : jobs_reading zones tried.sources ≡ Ok (kept_jobs zones tried.sources) =
     law zones tried.sources (sym (ap (λ pair. pair.0) found) ∙ no_errors) in
@@ -133,7 +134,7 @@ same_outcome law held goal jobs (Ok kept)
     ap (λ pair. jobs_or pair.1 zones tried.sources) found ∙ sym (ap (step fault_of_sources) all_kept) in
     goes (tried, zones) (input_read held jobs.zones jobs.sources tried zones read (sym (ap (λ k. k.unread) all) ∙ none.0))
     (goes format made (goes ([], None) refl (goes answer (subst (λ js. answer_of (AnswersGoal format) goal js (Ok answer)) same_jobs is)
-    (ap Ok (all ∙ ap (outcome_with tried answer) no_errors)))))
+    (ap Ok (all ∙ (λ i. outcome_with goal tried answer (same_jobs i) (no_errors i)))))))
 same_outcome law held goal jobs (Ok kept) (goes input read (goes format made (goes left found (stops failure _ same)))) none = absurd cc
 same_outcome law held goal jobs (Ok kept) (goes input read (goes format made (stops failure _ same))) none = absurd cc
 same_outcome law held goal jobs (Ok kept) (goes input read (stops failure _ same)) none = absurd cc
@@ -152,9 +153,9 @@ changes_nothing law held goal jobs end by none status out err reports = (end, sa
 -- times are rejected in the same way
 pub times_rejected : (ask : Ask) (failure : Failure) → request_of ask (Err failure) → request_of (stopping ask) (Err failure)
 times_rejected (Next starts) failure is = is
-times_rejected (Plan plan) failure (stops found (stops first is same) again) = stops found (stops first is same) again
-times_rejected (Plan plan) failure (stops found (goes span is same) again) = absurd cc
-times_rejected (Plan plan) failure (goes planning is same) = absurd cc
+times_rejected (Plan plan view) failure (stops found (stops first is same) again) = stops found (stops first is same) again
+times_rejected (Plan plan view) failure (stops found (goes span is same) again) = absurd cc
+times_rejected (Plan plan view) failure (goes planning is same) = absurd cc
 times_rejected (Upcoming after jobs) failure (stops found is same) = stops found is same
 times_rejected (Upcoming after jobs) failure (goes moment is same) = absurd cc
 times_rejected (Quiet plan least) failure (stops found (stops first is same) again) = stops found (stops first is same) again

@@ -20,7 +20,7 @@ use Rattle.agenda_faults.specs.declared.faults.RunFault.{RunFault}
 use Rattle.agenda_faults.specs.declared.faults.RunFault.TheVariants.{NoMemory}
 use Rattle.agenda_faults.specs.Status.{failed_status}
 use Rattle.plan_rules.specs.Job.{JobParts}
-use Rattle.agenda_commands.specs.Goal.{Makes, checked_goal, checked_jobs, sized_goal, valid_goal}
+use Rattle.agenda_commands.specs.Goal.{checked_goal, sized_goal, valid_goal}
 use Rattle.agenda_commands.specs.Remark.{remark_of}
 use Rattle.agenda_commands.specs.declared.Goal.{Goal}
 use Rattle.agenda_commands.specs.declared.RemarkedAnswer.{RemarkedAnswer}
@@ -29,8 +29,8 @@ use Rattle.agenda_sources.specs.declared.Source.{Source}
 use Rattle.agenda_sources.specs.declared.SourcePath.{SourcePath}
 use Rattle.agenda_inputs.specs.Files.{Held, most_read}
 use Rattle.agenda_answers.specs.Host.{KnownHost}
-use Rattle.agenda_answers.specs.Machine.{Shown, found_below, jobs_rest, machine_zones, parted, plans, said_of, shows_descriptions, shows_jobs, stops_at_first}
-use Rattle.agenda_answers.specs.Outcome.{Outcome, answer_of, settles}
+use Rattle.agenda_answers.specs.Machine.{Shown, found_below, jobs_rest, machine_zones, plans, remark_with, said_of, shows_descriptions, shows_jobs, stops_at_first}
+use Rattle.agenda_answers.specs.Outcome.{Outcome, parted, settles}
 use Rattle.agenda_inputs.specs.MachineZone.{KnownTree}
 use Rattle.agenda_inputs.specs.Steps.{Step, goes, stops}
 
@@ -123,23 +123,21 @@ first_of (Err fault) next P is = is
 pub first_error : (goal : Goal) (P : RunFault → Type 0) → IfErr (checked_goal goal) P → IfErr (valid_goal goal) P
 first_error goal P is = first_of (valid_goal goal) (λ valid. sized_goal goal) P is
 
--- the answer that is left of one with what is said about it
-pub settled_parts :
-    (Answers : Goal → Result (List JobParts) RunFault → Result (List ℕ) RunFault → Type 0) (goal : Goal)
-    (jobs : Result (List JobParts) RunFault) (made settled : Result RemarkedAnswer RunFault) →
-    Makes (Answers goal (checked_jobs goal jobs)) (λ all. all.answer) made → settles made (Ok settled) →
-    answer_of Answers goal jobs (Ok (parted settled).0)
-settled_parts Answers goal jobs made (Ok all) is same =
-    ((λ none. cc), subst (Makes (Answers goal (checked_jobs goal jobs)) (λ all. all.answer)) same is)
-settled_parts Answers goal jobs made (Err fault) is (other, same) = (
-  (λ none. other (let one : fault ≡ NoMemory = cc in one)),
-  (subst (Makes (Answers goal (checked_jobs goal jobs)) (λ all. all.answer)) same is) other,
-)
-
--- and what is said about it
+-- what is said about an answer, and whether a start is found
 pub said_parts :
     (goal : Goal) (kept : List JobParts) (made settled : Result RemarkedAnswer RunFault) →
     IfOk made (λ all. all.remark ≡ remark_of goal kept) → settles made (Ok settled) →
-    (parted settled).1 ≡ said_of (parted settled).0 (remark_of goal kept)
+    (parted settled).1.remark ≡ said_of (parted settled).0 (remark_of goal kept)
 said_parts goal kept made (Ok all) remark same = subst (λ r. IfOk r (λ a. a.remark ≡ remark_of goal kept)) same remark
 said_parts goal kept made (Err fault) remark same = refl
+
+-- the same is said about the same answer
+pub remark_same :
+    (goal : Goal) (is_answer other_is : Bool) (remark other_remark : Option (List ℕ)) (status other_status : ℕ)
+    (said : Option (List ℕ)) →
+    said ≡ remark_with goal is_answer remark status → is_answer ≡ other_is → remark ≡ other_remark → status ≡ other_status →
+    said ≡ remark_with goal other_is other_remark other_status
+remark_same goal is_answer other_is remark other_remark status other_status said found same_is same_remark same_status =
+    subst (λ (s : ℕ). said ≡ remark_with goal other_is other_remark s) same_status
+    (subst (λ (r : Option (List ℕ)). said ≡ remark_with goal other_is r status) same_remark
+    (subst (λ (b : Bool). said ≡ remark_with goal b remark status) same_is found))

@@ -1,5 +1,5 @@
 -- How a request for jobs is answered: for `make_outcome` and `report`.
-use Rattle.std.proofs.Common.{◌≡◌, ◌≢◌, ◌⊎◌, inl, inr, ℕ, Bool, true, false, List, [], ◌∷◌, Option, Result, Ok, Err, IfErr, is_err, refl, subst}
+use Rattle.std.proofs.Common.{◌≡◌, ◌≢◌, ◌⊎◌, inl, inr, ℕ, Bool, true, false, List, [], ◌∷◌, Option, Result, Ok, Err, IfErr, IfOk, is_err, refl, subst}
 use Rattle.std.proofs.KnownBytes.{Keeps-refl}
 use Rattle.plan_rules.specs.Job.{JobParts}
 use Rattle.plan_streams.specs.Stream.{Puts}
@@ -13,10 +13,11 @@ use Rattle.agenda_faults.specs.declared.faults.Failure.TheVariants.{Run}
 use Rattle.agenda_faults.specs.declared.faults.RunFault.{RunFault}
 use Rattle.agenda_faults.specs.declared.faults.RunFault.TheVariants.{NoMemory}
 use Rattle.agenda_commands.specs.declared.Goal.{Goal}
+use Rattle.agenda_commands.specs.declared.RemarkedAnswer.{RemarkedAnswer}
 use Rattle.agenda_commands.specs.Goal.{Makes, checked_jobs, valid_goal}
 use Rattle.agenda_commands.specs.Prepare.{errors_if, jobs_if}
 use Rattle.agenda_answers.specs.Describe.{described_as}
-use Rattle.agenda_answers.specs.Outcome.{Outcome, Reports, answer_of, kept_of, lines_of_skipped, settles}
+use Rattle.agenda_answers.specs.Outcome.{Outcome, Reports, answer_of, has_found, kept_of, lines_of_skipped, parted, settles}
 
 -- ---- what is kept, and the answer
 
@@ -39,20 +40,25 @@ fails_at_once :
 fails_at_once (Ok done) made failure bad is memory = tt
 fails_at_once (Err fault) made failure bad is memory = cc
 
-pub settled_answer :
+-- the answer that is left of one with what is said about it
+pub settled_parts :
     (Answers : Goal → Result (List JobParts) RunFault → Result (List ℕ) RunFault → Type 0) (goal : Goal)
-    (jobs : Result (List JobParts) RunFault) (made : Result (List ℕ) RunFault)
-    (answer : Result (Result (List ℕ) RunFault) Failure) →
-    Makes (Answers goal (checked_jobs goal jobs)) (λ text. text) made → IfErr (valid_goal goal) (λ fault. made ≡ Err fault) →
-    settles made answer → answer_of Answers goal jobs answer
-settled_answer Answers goal jobs made (Ok (Ok text)) is bad same =
-    ((λ none. cc), subst (Makes (Answers goal (checked_jobs goal jobs)) (λ text. text)) same is)
-settled_answer Answers goal jobs made (Ok (Err fault)) is bad (other, same) = (
+    (jobs : Result (List JobParts) RunFault) (made settled : Result RemarkedAnswer RunFault) →
+    Makes (Answers goal (checked_jobs goal jobs)) (λ all. all.answer) made → settles made (Ok settled) →
+    answer_of Answers goal jobs (Ok (parted settled).0)
+settled_parts Answers goal jobs made (Ok all) is same =
+    ((λ none. cc), subst (Makes (Answers goal (checked_jobs goal jobs)) (λ all. all.answer)) same is)
+settled_parts Answers goal jobs made (Err fault) is (other, same) = (
   (λ none. other (let one : fault ≡ NoMemory = cc in one)),
-  (subst (Makes (Answers goal (checked_jobs goal jobs)) (λ text. text)) same is) other,
+  (subst (Makes (Answers goal (checked_jobs goal jobs)) (λ all. all.answer)) same is) other,
 )
-settled_answer Answers goal jobs made (Err failure) is bad (memory, none) =
-    (memory, fails_at_once (valid_goal goal) made failure bad memory none)
+
+-- whether it says that a start is found
+pub found_parts :
+    (finds : Bool) (made settled : Result RemarkedAnswer RunFault) → IfOk made (λ all. all.finds_start ≡ finds) →
+    settles made (Ok settled) → (parted settled).1.finds_start ≡ has_found (parted settled).0 finds
+found_parts finds made (Ok all) is same = subst (λ r. IfOk r (λ a. a.finds_start ≡ finds)) same is
+found_parts finds made (Err fault) is same = refl
 
 pub settled_failure :
     {A : Type 0} (Answers : Goal → Result (List JobParts) RunFault → Result (List ℕ) RunFault → Type 0) (goal : Goal)

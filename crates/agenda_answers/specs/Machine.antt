@@ -1,5 +1,5 @@
 -- The answer to a question about a machine. All of it is our choice (agenda).
-use Rattle.std.specs.Prelude.{◌≡◌, ◌⊎◌, ℕ, Bool, true, false, not, ◌&&◌, ◌==◌, if◌then◌else◌, List, [], length, take, Option, None, Some, Result, Ok, Err}
+use Rattle.std.specs.Prelude.{◌≡◌, ◌⊎◌, ℕ, Bool, true, false, not, ◌&&◌, ◌==◌, if◌then◌else◌, List, [], codes, is_ok, length, take, Option, None, Some, Result, Ok, Err}
 use Rattle.std.specs.Io.KnownBytes.{Appends, Keeps}
 use Rattle.plan_clock.specs.declared.row.Change.{Change}
 use Rattle.plan_rules.specs.Job.{JobParts}
@@ -27,11 +27,12 @@ use Rattle.agenda_commands.specs.Check.{reported}
 use Rattle.agenda_commands.specs.Describe.{description_output}
 use Rattle.agenda_commands.specs.Form.{AnswersForm, origin_of}
 use Rattle.agenda_commands.specs.Remark.{remark_of}
-use Rattle.agenda_commands.specs.declared.RemarkedAnswer.{RemarkedAnswer}
 use Rattle.agenda_commands.specs.declared.Form.{Form}
 use Rattle.agenda_commands.specs.declared.Form.TheVariants as form
+use Rattle.agenda_commands.specs.Goal.{finds_start}
 use Rattle.agenda_commands.specs.declared.Goal.{Goal}
 use Rattle.agenda_commands.specs.declared.Goal.TheVariants as goal
+use Rattle.plan_collect.specs.declared.PlanView.TheVariants as view
 use Rattle.agenda_faults.specs.Status.{done_status, failed_status, rejected_status}
 use Rattle.agenda_findings.specs.Findings.{check_text}
 use Rattle.agenda_findings.specs.Skipped.{skipped_text}
@@ -59,7 +60,7 @@ use Rattle.agenda_answers.specs.Host.{KnownHost}
 use Rattle.agenda_inputs.specs.MachineFiles.{machine_files}
 use Rattle.agenda_answers.specs.MachineGoal.{goal_at}
 use Rattle.agenda_inputs.specs.MachineZone.{KnownTree, fails_with, looks, machine_clock}
-use Rattle.agenda_answers.specs.Outcome.{ExitsWith, Outcome, Reports, answer_of}
+use Rattle.agenda_answers.specs.Outcome.{ExitsWith, Outcome, Reports, answer_of, has_found, found_status}
 use Rattle.agenda_machine.specs.Root.{dir_of, root_of}
 use Rattle.agenda_inputs.specs.Steps.{Step, computes, gives, ◌>>=◌}
 
@@ -221,7 +222,7 @@ naming_limit limit answer = answer
 
 -- the same for a plan; without a plan there is no limit
 abbrev pub in_words : Goal → Result (List ℕ) RunFault → Result (List ℕ) RunFault
-in_words (goal.Plan planning) answer = naming_limit planning.sizes.limit answer
+in_words (goal.Plan planning view) answer = naming_limit planning.sizes.limit answer
 in_words (goal.Quiet planning least) answer = naming_limit planning.sizes.limit answer
 in_words (goal.Upcoming after delays) answer = answer
 
@@ -233,14 +234,19 @@ outcome_of paths errors status answer = record { unread = []; paths = paths; err
 abbrev pub is_stopped : (strict : Bool) → List Found → Bool
 is_stopped strict errors = strict && not (length errors == 0)
 
--- an answer, and what is said about it; nothing is said about an error
-abbrev pub parted : Result RemarkedAnswer RunFault → Result (List ℕ) RunFault × Option (List ℕ)
-parted (Ok made) = (Ok made.answer, made.remark)
-parted (Err fault) = (Err fault, None)
-
 abbrev pub said_of : Result (List ℕ) RunFault → (remark : Option (List ℕ)) → Option (List ℕ)
 said_of (Ok text) remark = remark
 said_of (Err fault) remark = None
+
+-- what is said if a first entry is asked for, but something is skipped
+abbrev pub not_clear : List ℕ
+not_clear = codes "agenda: not clear: some files could not be read\n"
+
+-- what is said about an answer with this exit status, if there is one: that a span isn't clear, if a first entry is asked for and
+-- something is skipped
+abbrev pub remark_with : Goal → (is_answer : Bool) → (remark : Option (List ℕ)) → (status : ℕ) → Option (List ℕ)
+remark_with (goal.Plan planning view.First) true remark status = if status == done_status then remark else Some not_clear
+remark_with goal is_answer remark status = remark
 
 -- the answer for the jobs that are left, and what is said about it
 abbrev pub answers_said :
@@ -248,9 +254,12 @@ abbrev pub answers_said :
     Step (Outcome × Option (List ℕ))
 answers_said dir machine paths errors form goal kept = do
   answer ← answers_with_files dir machine form goal kept
+  remark ← computes
+      (remark_with goal (is_ok answer) (said_of answer (remark_of goal kept)) (machine_status machine (is_all_clean errors)))
   gives (
-    outcome_of paths errors (machine_status machine (is_all_clean errors)) (in_words goal answer),
-    said_of answer (remark_of goal kept),
+    outcome_of paths errors (found_status (has_found answer (finds_start goal kept)) (machine_status machine (is_all_clean errors)))
+        (in_words goal answer),
+    remark,
   )
 
 -- what follows if the answer is stopped, or else the answer

@@ -92,10 +92,10 @@ abbrev pub goal_by : (now : ℕ) → (clock : List Change) → (delays : Bool) �
 goal_by now clock delays (Upcoming after) = do
   moment ← since_at option.After now clock after
   gives (goal.Upcoming moment delays)
-goal_by now clock delays (Plan span sizes) = do
+goal_by now clock delays (Plan span sizes view) = do
   bounds ← span_at now clock span
   valid ← sizes_in sizes
-  gives (goal.Plan (record { span = bounds; sizes = valid; delays = delays }))
+  gives (goal.Plan (record { span = bounds; sizes = valid; delays = delays }) view)
 goal_by now clock delays (Quiet span sizes least) = do
   bounds ← span_at now clock span
   seconds ← least_of least (length_of least)

@@ -1,6 +1,6 @@
 -- The answer to a request for jobs. If it keeps going, what is invalid or can't be read is skipped and reported.
 -- All of it is our choice (agenda).
-use Rattle.std.specs.Prelude.{◌≡◌, ◌≢◌, ◌⊎◌, ℕ, Bool, true, false, List, [], ◌∷◌, Option, None, Some, Result, Ok, Err, IfErr}
+use Rattle.std.specs.Prelude.{◌≡◌, ◌≢◌, ◌⊎◌, ℕ, ◌==◌, ◌&&◌, if◌then◌else◌, Bool, true, false, List, [], ◌∷◌, Option, None, Some, Result, Ok, Err, IfErr}
 use Rattle.std.specs.Io.KnownBytes.{Appends, Keeps}
 use Rattle.plan_rules.specs.Job.{JobParts}
 use Rattle.plan_streams.specs.Stream.{BreaksOff}
@@ -17,9 +17,11 @@ use Rattle.agenda_sources.specs.declared.TimeZones.{TimeZones}
 use Rattle.agenda_sources.specs.Findings.{kept_jobs, sources_errors}
 use Rattle.agenda_findings.specs.Skipped.{skipped_text}
 use Rattle.agenda_commands.specs.declared.Goal.{Goal}
-use Rattle.agenda_commands.specs.Goal.{AnswersGoal, checked_jobs, valid_goal}
+use Rattle.agenda_commands.specs.Goal.{AnswersGoal, checked_jobs, finds_in, valid_goal}
+use Rattle.agenda_commands.specs.declared.RemarkedAnswer.{RemarkedAnswer}
 use Rattle.agenda_commands.specs.Prepare.{jobs_or}
 use Rattle.agenda_inputs.specs.declared.Tried.{Tried}
+use Rattle.agenda_answers.specs.declared.jobs.Said.{Said}
 use Rattle.agenda_answers.specs.Answer.{Exits, HoldsAfter, Printed, StreamChange}
 use Rattle.agenda_inputs.specs.Files.{Held}
 use Rattle.agenda_answers.specs.Formats.{format_made, utc_name}
@@ -40,6 +42,20 @@ abbrev pub skipped_status : (unread : List SourcePath) → (errors : List Found)
 skipped_status [] [] = done_status
 skipped_status [] (error ∷ more) = rejected_status
 skipped_status (path ∷ more) errors = failed_status
+
+-- an answer and what is said about it; nothing is said about an error
+abbrev pub parted : Result RemarkedAnswer RunFault → Result (List ℕ) RunFault × Said
+parted (Ok made) = (Ok made.answer, record { remark = made.remark; finds_start = made.finds_start })
+parted (Err fault) = (Err fault, record { remark = None; finds_start = false })
+
+-- whether an answer says that a job may start in the span; an error doesn't
+abbrev pub has_found : Result (List ℕ) RunFault → (finds : Bool) → Bool
+has_found (Ok text) finds = finds
+has_found (Err fault) finds = false
+
+-- the exit status of an answer, by that without it: a span isn't clear if a job may start in it
+abbrev pub found_status : (finds : Bool) → (status : ℕ) → ℕ
+found_status finds status = if finds && (status == done_status) then rejected_status else status
 
 -- the errors that are skipped and the jobs that are left without them, if the request keeps going
 abbrev pub kept_of : (keeps_going : Bool) → TimeZones → List Source → Step (List Found × Option (List JobParts))
@@ -70,7 +86,7 @@ outcome_of keeps_going goal jobs (tried, zones) = do
     paths = tried.paths;
     errors = kept.0;
     answer = answer;
-    status = skipped_status tried.unread kept.0;
+    status = found_status (has_found answer (finds_in goal (jobs_or kept.1 zones tried.sources))) (skipped_status tried.unread kept.0);
   })
 
 -- the same, once the zone and then the files were read

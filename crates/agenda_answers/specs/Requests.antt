@@ -52,9 +52,9 @@ request_of (Next starts) = do
     rule = starts.rule;
     format = starts.format;
   }))
-request_of (Plan plan) = do
+request_of (Plan plan view) = do
   planning ← planning_of plan
-  gives (request.Jobs (goal.Plan planning) plan.jobs)
+  gives (request.Jobs (goal.Plan planning view) plan.jobs)
 request_of (Upcoming after jobs) = do
   moment ← moment_of option.After after
   gives (request.Jobs (goal.Upcoming moment jobs.delays) jobs)
@@ -76,7 +76,7 @@ stopping_jobs jobs = record jobs { keep_going = false }
 
 -- what is requested, without keeping going
 abbrev pub stopping : Ask → Ask
-stopping (Plan plan) = Plan (record plan { jobs = stopping_jobs plan.jobs })
+stopping (Plan plan view) = Plan (record plan { jobs = stopping_jobs plan.jobs }) view
 stopping (Upcoming after jobs) = Upcoming after (stopping_jobs jobs)
 stopping (Quiet plan least) = Quiet (record plan { jobs = stopping_jobs plan.jobs }) least
 stopping (DescribeJobs jobs) = DescribeJobs (stopping_jobs jobs)

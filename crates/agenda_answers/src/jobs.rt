@@ -8,7 +8,7 @@ ghost use Rattle.std.specs.Prelude.{◌≡◌, Err, IsTrue, List, OnOk, true};
 ghost use Rattle.agenda_answers.specs.Answer.{HoldsAfter};
 ghost use Rattle.agenda_inputs.specs.Files.{Held};
 ghost use Rattle.agenda_inputs.specs.Opened.{OpensFirst, input_files};
-ghost use Rattle.agenda_answers.specs.Outcome.{AnswersJobs, Reports, outcome_by, printed, settles, skipped_status};
+ghost use Rattle.agenda_answers.specs.Outcome.{AnswersJobs, Reports, found_status, outcome_by, parted, printed, settles, skipped_status};
 ghost use Rattle.agenda_answers.specs.Program.{ChangesNothing};
 ghost use Rattle.agenda_answers.specs.Requests.{request_of, stopping};
 ghost use Rattle.agenda_faults.specs.declared.faults.Failure.{Failure};
@@ -20,12 +20,13 @@ ghost use Rattle.agenda_arguments.specs.declared.JobsRequest.{JobsRequest};
 use crate::answers::end;
 use crate::formats::{UTC, make_format};
 use agenda_arguments::JobsRequest;
-use agenda_commands::{Goal, PreparedAnswer, kept_if, prepare_answer};
+use agenda_commands::{Goal, PreparedAnswer, RemarkedAnswer, kept_if, prepare_answer};
 use agenda_faults::status::{DONE, FAILED, REJECTED};
 use agenda_faults::{Failure, RunFault};
 use agenda_findings::write_skipped;
 use agenda_inputs::{Files, read_input};
 use agenda_sources::{Found, SourcePath, SourcePaths, without_errors_all_is_kept};
+use plan_rules::Text;
 use plan_streams::Stream;
 use std::alloc::Global;
 use std::marker::Model;
@@ -63,7 +64,8 @@ impl Model for Outcome {
 
 /// Answers a request for jobs, and returns the exit status.
 ///
-/// The status is 3 if a file is skipped, 1 if an error is skipped, and 0 otherwise. If there is no answer, it is that of
+/// The status is 3 if a file is skipped, 1 if an error is skipped or if a first entry is asked for and there is one, and 0
+/// otherwise. If there is no answer, it is that of
 /// the error. If standard error fails, it is 3, and nothing is written to standard output.
 pub(crate) fn answer_jobs<R: Threads + Wait + Sync, F: Files, O: Stream, E: Stream>(
     rt: &R,
@@ -101,8 +103,10 @@ fn make_outcome<R: Threads + Wait + Sync, F: Files>(
     let format = make_format(alloc, jobs.format, &jobs.zones.zone, UTC, &zones.clock)?;
     let (errors, kept) = kept_if(alloc, jobs.keep_going, &tried.sources, &zones)?;
     let made = prepare_answer(rt, alloc, kept, &tried.sources, &zones, goal, format);
-    let answer = settled(made)?;
+    let made = settled(made)?;
+    let (answer, said) = parted(made);
     let status = skipped_status(tried.unread.as_slice(), errors.as_slice());
+    let status = found_status(said.finds_start, status);
     Ok(Outcome {
         unread: tried.unread,
         paths: tried.paths,
@@ -124,6 +128,50 @@ pub(crate) fn settled<A>(made: Result<A, RunFault>) -> Result<Result<A, RunFault
         Ok(answer) => Ok(Ok(answer)),
         Err(RunFault::NoMemory) => Err(Failure::Run(RunFault::NoMemory)),
         Err(fault) => Ok(Err(fault)),
+    }
+}
+
+// What is said about an answer.
+#[derive(Drop)]
+pub(crate) struct Said {
+    // A line for people, if there is something to say.
+    pub(crate) remark: Option<Text>,
+    // Whether the answer is the first entry of an agenda: then a job may start in the span.
+    pub(crate) finds_start: bool,
+}
+
+// Returns an answer and what is said about it. Nothing is said about an error.
+pub(crate) fn parted(
+    made: Result<RemarkedAnswer, RunFault>,
+) -> (Result<PreparedAnswer, RunFault>, Said)
+    ensures { result ≡ parted made }
+{
+    match made {
+        Ok(made) => {
+            let said = Said {
+                remark: made.remark,
+                finds_start: made.finds_start,
+            };
+            (Ok(made.answer), said)
+        }
+        Err(fault) => {
+            let said = Said {
+                remark: None,
+                finds_start: false,
+            };
+            (Err(fault), said)
+        }
+    }
+}
+
+// Returns the exit status of an answer, by that without it: a start that is found is none of a clear span.
+pub(crate) fn found_status(finds_start: bool, status: u8) -> u8
+    ensures { result ≡ found_status finds_start status }
+{
+    if finds_start && status == DONE {
+        REJECTED
+    } else {
+        status
     }
 }
 

@@ -6,7 +6,7 @@ ghost use Rattle.std.specs.Prelude.{◌≡◌, false, IfOk, IsTrue, Some, option
 ghost use Rattle.agenda_answers.specs.Host.{host_of};
 ghost use Rattle.agenda_answers.specs.Machine.{AnswersMachine, answers_said, directory_if, files_if, found_in, in_words};
 ghost use Rattle.agenda_answers.specs.Machine.{errors_in, findings_rest, is_root, machine_below, machine_ends, machine_if, machine_of};
-ghost use Rattle.agenda_answers.specs.Machine.{is_stopped, kept_in, machine_zones, naming_limit, parted, rest_of, shows_findings, shows_jobs};
+ghost use Rattle.agenda_answers.specs.Machine.{is_stopped, kept_in, machine_zones, naming_limit, remark_with, rest_of, shows_findings, shows_jobs};
 ghost use Rattle.agenda_machine.specs.JobFiles.{files_of_jobs};
 ghost use Rattle.agenda_sources.specs.Findings.{kept_jobs, sources_errors};
 ghost use Rattle.agenda_machine.specs.Places.{paths_of};
@@ -15,12 +15,13 @@ ghost use Rattle.agenda_machine.specs.Root.{root_of};
 use crate::answers::end;
 use crate::formats::{FormRequest, make_form, unnamed_zone};
 use crate::host::Host;
-use crate::jobs::{Outcome, settled};
+use crate::jobs::{Outcome, found_status, parted, settled};
 use crate::machine_answer::{MachineAnswer, Printout, Site, Skipped, show, status_of};
 use crate::machine_describe::descriptions_answer;
 use crate::machine_goal::goal_at;
 use agenda_arguments::{MachineCheck, MachineJobs, MachineQuestion, MachineRequest};
-use agenda_commands::{Form, Goal, PreparedAnswer, RemarkedAnswer, are_warnings, prepare_remarked};
+use agenda_commands::{Form, Goal, PreparedAnswer, are_warnings, prepare_remarked};
+use agenda_faults::status::DONE;
 use agenda_faults::{Failure, RunFault};
 use agenda_inputs::{Files, MOST_READ, MachineFiles, machine_clock, read_zones};
 use agenda_machine::{
@@ -31,7 +32,7 @@ use agenda_sources::{
     Found, Kept, SourcePaths, Sources, TimeZones, findings_of_sources, kept_of_sources, zone_names,
 };
 use plan_clock::Clock;
-use plan_collect::{CollectFault, PlanFault};
+use plan_collect::{CollectFault, PlanFault, PlanView};
 use plan_machine::{Machine, find_machine};
 use plan_rules::{Jobs, Text};
 use plan_services::default_accuracy;
@@ -41,6 +42,9 @@ use plan_write::JobFile;
 use std::alloc::{AllocError, Global};
 use std::sync::Wait;
 use std::thread::Threads;
+
+// What is said if a first entry is asked for, but something is skipped.
+const NOT_CLEAR: &str = "agenda: not clear: some files could not be read\n";
 
 /// Answers a question about a machine, and returns the exit status.
 ///
@@ -305,15 +309,39 @@ fn planned<R: Threads + Wait + Sync>(
     let files = files_if(alloc, site, &kept, &form)?;
     let made = prepare_remarked(rt, alloc, kept, goal, form, files.as_deref());
     let made = settled(made)?;
-    let (answer, remark) = parted(made);
+    let (answer, said) = parted(made);
+    let status = status_of(&site.machine, are_warnings(skipped.errors.as_slice()));
+    let remark = remark_of(alloc, goal, answer.is_ok(), said.remark, status)?;
     let outcome = Outcome {
         unread: SourcePaths::new(alloc),
-        status: status_of(&site.machine, are_warnings(skipped.errors.as_slice())),
+        status: found_status(said.finds_start, status),
         paths: skipped.paths,
         errors: skipped.errors,
         answer: in_words(answer, goal),
     };
     Ok((outcome, remark))
+}
+
+// Returns what is said about an answer with this exit status: that a span isn't clear, if a first entry was asked for and
+// something is skipped, and otherwise what was said before.
+fn remark_of(
+    alloc: Global,
+    goal: &Goal,
+    is_answer: bool,
+    remark: Option<Text>,
+    status: u8,
+) -> Result<Option<Text>, AllocError>
+    ensures { IfOk result (λ said. said ≡ remark_with goal.now is_answer remark status) }
+{
+    match goal {
+        Goal::Plan {
+            view: PlanView::First,
+            ..
+        } if is_answer && status != DONE => {
+            Ok(Some(Text::new(String::from_str(alloc, NOT_CLEAR)?)))
+        }
+        _ => Ok(remark),
+    }
 }
 
 // Returns the files of jobs, if an answer in this form has them: its lines in JSON do.
@@ -336,18 +364,6 @@ fn files_if(
     }
 }
 
-// Returns an answer and what is said about it.
-fn parted(
-    made: Result<RemarkedAnswer, RunFault>,
-) -> (Result<PreparedAnswer, RunFault>, Option<Text>)
-    ensures { result ≡ parted made }
-{
-    match made {
-        Ok(made) => (Ok(made.answer), made.remark),
-        Err(fault) => (Err(fault), None),
-    }
-}
-
 // Returns an answer. If it has too many starts for a plan, the error names the limit.
 fn in_words(
     answer: Result<PreparedAnswer, RunFault>,
@@ -356,7 +372,7 @@ fn in_words(
     ensures { result ≡ in_words goal.now answer }
 {
     match goal {
-        Goal::Plan(planning) => naming_limit(answer, planning.sizes.limit),
+        Goal::Plan { planning, .. } => naming_limit(answer, planning.sizes.limit),
         Goal::Quiet { planning, .. } => naming_limit(answer, planning.sizes.limit),
         Goal::Upcoming { .. } => answer,
     }

@@ -40,14 +40,16 @@ pub(crate) fn goal_at(
             let after = since_at(alloc, TimeOption::After, after, now, clock)?;
             Ok(Goal::Upcoming { after, delays })
         }
-        MachineGoal::Plan { span, sizes } => {
+        MachineGoal::Plan { span, sizes, view } => {
             let span = span_at(alloc, span, now, clock)?;
             let sizes = sizes_in(*sizes)?;
-            Ok(Goal::Plan(Planning {
+            let planning = Planning {
                 span,
                 sizes,
                 delays,
-            }))
+            };
+            let view = *view;
+            Ok(Goal::Plan { planning, view })
         }
         MachineGoal::Quiet { span, sizes, least } => {
             let span = span_at(alloc, span, now, clock)?;

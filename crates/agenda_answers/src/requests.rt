@@ -13,7 +13,7 @@ use agenda_commands::{Goal, Planning};
 use agenda_faults::{Failure, TimeOption};
 use agenda_policy::Policy;
 use agenda_sources::{Asked, SourcePaths};
-use plan_collect::Span;
+use plan_collect::{PlanView, Span};
 use plan_rules::Text;
 use plan_sets::read_moment;
 
@@ -96,7 +96,7 @@ pub(crate) fn request_of(ask: Ask) -> Result<Request, Failure>
 {
     match ask {
         Ask::Next(request) => starts_request(request),
-        Ask::Plan(request) => plan_request(request),
+        Ask::Plan { plan, view } => plan_request(plan, view),
         Ask::Upcoming { after, jobs } => upcoming_request(&after, jobs),
         Ask::Quiet { plan, least } => quiet_request(plan, least),
         Ask::Check {
@@ -134,13 +134,13 @@ fn starts_request(request: NextRequest) -> Result<Request, Failure>
     }))
 }
 
-// Reads the timestamps of `plan`.
-fn plan_request(request: PlanRequest) -> Result<Request, Failure>
-    ensures { request_of (Plan request) result }
+// Reads the timestamps of a plan of which a view is printed.
+fn plan_request(request: PlanRequest, view: PlanView) -> Result<Request, Failure>
+    ensures { request_of (Plan request view) result }
 {
     let planning = planning_of(&request)?;
     Ok(Request::Jobs {
-        goal: Goal::Plan(planning),
+        goal: Goal::Plan { planning, view },
         jobs: request.jobs,
     })
 }

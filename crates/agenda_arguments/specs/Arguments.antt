@@ -1,6 +1,6 @@
 -- What the arguments of the command line request.
 use Rattle.std.specs.Prelude.{◌≡◌, ⊤, ℕ, Bool, false, List, [], ◌∷◌, Option, Some, None, Result, Ok, Err}
-use Rattle.std.specs.Prelude.{◌&&◌, ◌||◌, ◌==◌, codes, length, drop, if◌then◌else◌, map, not, option_and_then, slice_get, true, unwrap_or, IfErr}
+use Rattle.std.specs.Prelude.{◌&&◌, ◌||◌, ◌==◌, codes, length, drop, if◌then◌else◌, is_some, map, not, option_and_then, slice_get, true, unwrap_or, IfErr}
 use Rattle.std.specs.List.{flat_map}
 use Rattle.std.specs.Option.{option_map_or}
 use Rattle.std.specs.Str.{bytes_eq}
@@ -21,6 +21,7 @@ use Rattle.agenda_policy.specs.Reading.{ValueReading, policy_reading}
 use Rattle.agenda_sources.specs.Asked.{asked_in}
 use Rattle.agenda_sources.specs.declared.Asked.{Asked}
 use Rattle.agenda_sources.specs.declared.Asked.TheVariants.{Cron, Event}
+use Rattle.plan_collect.specs.declared.PlanView.TheVariants as view
 use Rattle.agenda_arguments.specs.declared.ask.FormatRequest.{FormatRequest}
 use Rattle.agenda_arguments.specs.declared.ask.TableRequest.{TableRequest}
 use Rattle.agenda_arguments.specs.declared.ask.TableRequest.TheVariants as table_request
@@ -143,7 +144,7 @@ plan_in rows = do
 abbrev pub asked_by_plan : List Row → Result Ask ArgumentsFault
 asked_by_plan rows = do
   plan ← plan_in rows
-  Ok (Plan plan)
+  Ok (Plan plan view.Starts)
 
 -- what `upcoming` requests, by its values (agenda)
 abbrev pub asked_by_upcoming : List Row → Result Ask ArgumentsFault
@@ -157,6 +158,38 @@ asked_by_quiet rows = do
   plan ← plan_in rows
   least ← wanted (number_in (one_of (codes "least") rows))
   Ok (Quiet plan least)
+
+-- what `downtime` requests, by its values: delays count (agenda)
+abbrev pub asked_by_downtime : List Row → Result Ask ArgumentsFault
+asked_by_downtime rows = do
+  plan ← plan_in rows
+  Ok (Plan (record plan { jobs = record plan.jobs { delays = true } }) view.Downtime)
+
+-- what `week` requests, by its values: days and hours are those that the clock of the zone shows, if one is given (agenda)
+abbrev pub asked_by_week : List Row → Result Ask ArgumentsFault
+asked_by_week rows = do
+  plan ← plan_in rows
+  Ok (Plan (record plan { jobs = record plan.jobs { format = record plan.jobs.format { local = is_some plan.jobs.zones.zone } } }) view.Week)
+
+-- the sizes of a search, in the order in which they are checked: it stops at the first start (agenda)
+abbrev pub search_sizes_in : List Row → Result Sizes ArgumentsFault
+search_sizes_in rows = do
+  planners ← wanted (number_in (one_of (codes "planners") rows))
+  room ← wanted (number_in (one_of (codes "room") rows))
+  Ok (record { planners = planners; room = room; limit = 1 })
+
+-- what `clear` requests, by its values: delays count unless `--nominal` is given (agenda)
+unfoldable pub asked_by_clear : List Row → Result Ask ArgumentsFault
+asked_by_clear rows = do
+  since ← wanted (first_of (codes "since") rows)
+  upto ← wanted (first_of (codes "upto") rows)
+  sizes ← search_sizes_in rows
+  Ok (Plan (record {
+    since = since;
+    upto = upto;
+    jobs = record (jobs_in rows) { delays = not (is_given (codes "nominal") rows) };
+    sizes = sizes;
+  }) view.First)
 
 -- a policy, or a usage error (agenda)
 abbrev pub policy_or_usage : ValueReading Policy → Result Policy ArgumentsFault
@@ -218,10 +251,13 @@ asked_by_subcommand (Some met) =
     else (if bytes_eq met.0 (codes "plan") then asked_by_plan met.1
     else (if bytes_eq met.0 (codes "upcoming") then asked_by_upcoming met.1
     else (if bytes_eq met.0 (codes "quiet") then asked_by_quiet met.1
+    else (if bytes_eq met.0 (codes "downtime") then asked_by_downtime met.1
+    else (if bytes_eq met.0 (codes "clear") then asked_by_clear met.1
+    else (if bytes_eq met.0 (codes "week") then asked_by_week met.1
     else (if bytes_eq met.0 (codes "check") then asked_by_check met.1
     else (if bytes_eq met.0 (codes "describe") then asked_by_describe met.1
     else (if bytes_eq met.0 (codes "steps") then asked_by_steps met.1
-    else (if bytes_eq met.0 (codes "explain") then asked_by_explain met.1 else Err is_usage)))))))
+    else (if bytes_eq met.0 (codes "explain") then asked_by_explain met.1 else Err is_usage))))))))))
 
 -- the time zone of a question about a machine, which is optional: UTC with `--utc`, but not together with `--zone` (agenda)
 abbrev pub machine_zone : Option (List ℕ) → (utc : Bool) → Result (Option (List ℕ)) ArgumentsFault
@@ -258,11 +294,18 @@ table_in false true false = Ok table_request.Never
 table_in false false true = Ok table_request.Never
 table_in table text json = Err is_usage
 
+-- whether the answer for a goal is a table, by the values: the hours of a week and a first start have none (agenda)
+abbrev pub table_for : MachineGoal → List Row → Result TableRequest ArgumentsFault
+table_for (machine_goal.Plan span sizes view.Week) rows = Ok table_request.Never
+table_for (machine_goal.Plan span sizes view.First) rows = Ok table_request.Never
+table_for goal rows =
+    table_in (is_given (codes "table") rows) (is_given (codes "text") rows) (is_given (codes "json") rows)
+
 -- what is made of the jobs of a machine, by the values (agenda)
 abbrev pub asked_of_jobs : List Row → (delays : Bool) → MachineGoal → Result Ask ArgumentsFault
 asked_of_jobs rows delays goal = do
   zone ← machine_zone (zone_in rows) (is_given (codes "utc") rows)
-  table ← table_in (is_given (codes "table") rows) (is_given (codes "text") rows) (is_given (codes "json") rows)
+  table ← table_for goal rows
   asked_of_machine rows (question.Jobs (record {
     goal = goal;
     zone = zone;
@@ -291,7 +334,7 @@ abbrev pub asked_by_machine_plan : List Row → Result Ask ArgumentsFault
 asked_by_machine_plan rows = do
   span ← span_in rows
   sizes ← sizes_in rows
-  asked_of_jobs rows (is_given (codes "delays") rows) (machine_goal.Plan span sizes)
+  asked_of_jobs rows (is_given (codes "delays") rows) (machine_goal.Plan span sizes view.Starts)
 
 -- what `machine quiet` requests, by its values: delays count unless `--nominal` is given (agenda)
 abbrev pub asked_by_machine_quiet : List Row → Result Ask ArgumentsFault
@@ -300,6 +343,27 @@ asked_by_machine_quiet rows = do
   sizes ← sizes_in rows
   least ← wanted (first_of (codes "least") rows)
   asked_of_jobs rows (not (is_given (codes "nominal") rows)) (machine_goal.Quiet span sizes least)
+
+-- what `machine downtime` requests, by its values: delays count (agenda)
+abbrev pub asked_by_machine_downtime : List Row → Result Ask ArgumentsFault
+asked_by_machine_downtime rows = do
+  span ← span_in rows
+  sizes ← sizes_in rows
+  asked_of_jobs rows true (machine_goal.Plan span sizes view.Downtime)
+
+-- what `machine clear` requests, by its values: delays count unless `--nominal` is given (agenda)
+abbrev pub asked_by_machine_clear : List Row → Result Ask ArgumentsFault
+asked_by_machine_clear rows = do
+  span ← span_in rows
+  sizes ← search_sizes_in rows
+  asked_of_jobs rows (not (is_given (codes "nominal") rows)) (machine_goal.Plan span sizes view.First)
+
+-- what `machine week` requests, by its values: delays don't count (agenda)
+abbrev pub asked_by_machine_week : List Row → Result Ask ArgumentsFault
+asked_by_machine_week rows = do
+  span ← span_in rows
+  sizes ← sizes_in rows
+  asked_of_jobs rows false (machine_goal.Plan span sizes view.Week)
 
 -- what `machine next` requests, by its values (agenda)
 abbrev pub asked_by_machine_next : List Row → Result Ask ArgumentsFault
@@ -342,10 +406,13 @@ asked_by_question (Some met) =
     if bytes_eq met.0 (codes "upcoming") then asked_by_machine_upcoming met.1
     else (if bytes_eq met.0 (codes "plan") then asked_by_machine_plan met.1
     else (if bytes_eq met.0 (codes "quiet") then asked_by_machine_quiet met.1
+    else (if bytes_eq met.0 (codes "downtime") then asked_by_machine_downtime met.1
+    else (if bytes_eq met.0 (codes "clear") then asked_by_machine_clear met.1
+    else (if bytes_eq met.0 (codes "week") then asked_by_machine_week met.1
     else (if bytes_eq met.0 (codes "check") then asked_by_machine_check met.1
     else (if bytes_eq met.0 (codes "sources") then asked_by_machine_sources met.1
     else (if bytes_eq met.0 (codes "next") then asked_by_machine_next met.1
-    else (if bytes_eq met.0 (codes "describe") then asked_by_machine_describe met.1 else Err is_usage))))))
+    else (if bytes_eq met.0 (codes "describe") then asked_by_machine_describe met.1 else Err is_usage)))))))))
 
 -- how an error of clap is answered: help and the version are printed, and all other errors are usage errors (agenda)
 abbrev pub fault_of_kind : ErrorKind → ArgumentsFault

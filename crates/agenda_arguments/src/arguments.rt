@@ -2,10 +2,10 @@
 ghost use Rattle.std.specs.Prelude.{◌≡◌, Err, IfOk, codes, map, string_bytes};
 ghost use Rattle.clap.specs.Words.{first_of, found_of, kind_of, rows_of, subcommand_rows_of};
 ghost use Rattle.agenda_arguments.specs.Arguments.ArgumentsFault.{is_usage};
-ghost use Rattle.agenda_arguments.specs.Arguments.{Follows, Gives, IsAnswerTo, are_of_machine, asked_by, asked_by_agenda, asked_by_check};
-ghost use Rattle.agenda_arguments.specs.Arguments.{asked_by_describe, asked_by_explain, asked_by_rule, asked_by_next, asked_by_plan, asked_by_quiet, asked_by_steps};
-ghost use Rattle.agenda_arguments.specs.Arguments.{asked_by_subcommand, asked_by_upcoming, format_in, jobs_in, one_rule, plan_in};
-ghost use Rattle.agenda_arguments.specs.Arguments.{sizes_in, zones_in};
+ghost use Rattle.agenda_arguments.specs.Arguments.{Follows, Gives, IsAnswerTo, are_of_machine, asked_by, asked_by_agenda, asked_by_check, asked_by_clear};
+ghost use Rattle.agenda_arguments.specs.Arguments.{asked_by_describe, asked_by_downtime, asked_by_explain, asked_by_rule, asked_by_next, asked_by_plan, asked_by_quiet, asked_by_steps};
+ghost use Rattle.agenda_arguments.specs.Arguments.{asked_by_subcommand, asked_by_upcoming, asked_by_week, format_in, jobs_in, one_rule, plan_in};
+ghost use Rattle.agenda_arguments.specs.Arguments.{search_sizes_in, sizes_in, zones_in};
 
 use crate::ask::{
     Ask, FormatRequest, JobsRequest, NextRequest, PlanRequest, UsageFault, ZonesRequest,
@@ -18,7 +18,7 @@ use agenda_options::agenda_command;
 use agenda_sources::Asked;
 use clap::ArgMatches;
 use clap::error::ErrorKind;
-use plan_collect::Sizes;
+use plan_collect::{PlanView, Sizes};
 use plan_texts::Text;
 use std::alloc::{AllocError, Global};
 
@@ -80,6 +80,9 @@ fn asked_by_subcommand(alloc: Global, matches: &ArgMatches<'_>) -> Result<Ask, U
         "plan" => asked_by_plan(alloc, given),
         "upcoming" => asked_by_upcoming(alloc, given),
         "quiet" => asked_by_quiet(alloc, given),
+        "downtime" => asked_by_downtime(alloc, given),
+        "clear" => asked_by_clear(alloc, given),
+        "week" => asked_by_week(alloc, given),
         "check" => asked_by_check(alloc, given),
         "describe" => asked_by_describe(alloc, given),
         "steps" => asked_by_steps(alloc, given),
@@ -131,7 +134,9 @@ fn rule_of(alloc: Global, given: &ArgMatches<'_>) -> Result<Asked, UsageFault>
 fn asked_by_plan(alloc: Global, given: &ArgMatches<'_>) -> Result<Ask, UsageFault>
     ensures { Follows result (asked_by_plan (rows_of (found_of given.now))) }
 {
-    Ok(Ask::Plan(plan_of(alloc, given)?))
+    let plan = plan_of(alloc, given)?;
+    let view = PlanView::Starts;
+    Ok(Ask::Plan { plan, view })
 }
 
 fn asked_by_upcoming(alloc: Global, given: &ArgMatches<'_>) -> Result<Ask, UsageFault>
@@ -148,6 +153,46 @@ fn asked_by_quiet(alloc: Global, given: &ArgMatches<'_>) -> Result<Ask, UsageFau
     let plan = plan_of(alloc, given)?;
     let least = number_argument(alloc, given, "least")?;
     Ok(Ask::Quiet { plan, least })
+}
+
+// Delays count.
+fn asked_by_downtime(alloc: Global, given: &ArgMatches<'_>) -> Result<Ask, UsageFault>
+    ensures { Follows result (asked_by_downtime (rows_of (found_of given.now))) }
+{
+    let mut plan = plan_of(alloc, given)?;
+    plan.jobs.delays = true;
+    let view = PlanView::Downtime;
+    Ok(Ask::Plan { plan, view })
+}
+
+// Days and hours are those that the clock of the zone shows, if one is given.
+fn asked_by_week(alloc: Global, given: &ArgMatches<'_>) -> Result<Ask, UsageFault>
+    ensures { Follows result (asked_by_week (rows_of (found_of given.now))) }
+{
+    let mut plan = plan_of(alloc, given)?;
+    plan.jobs.format.local = plan.jobs.zones.zone.is_some();
+    let view = PlanView::Week;
+    Ok(Ask::Plan { plan, view })
+}
+
+// Delays count unless `--nominal` is given.
+#[tactic(auto, unfolding(crate::specs::Arguments::asked_by_clear))]
+fn asked_by_clear(alloc: Global, given: &ArgMatches<'_>) -> Result<Ask, UsageFault>
+    ensures { Follows result (asked_by_clear (rows_of (found_of given.now))) }
+{
+    let since = text_of(alloc, given, "since")?;
+    let upto = text_of(alloc, given, "upto")?;
+    let sizes = search_sizes_of(alloc, given)?;
+    let mut jobs = jobs_of(alloc, given)?;
+    jobs.delays = !is_given(given, "nominal");
+    let plan = PlanRequest {
+        since,
+        upto,
+        jobs,
+        sizes,
+    };
+    let view = PlanView::First;
+    Ok(Ask::Plan { plan, view })
 }
 
 // Returns what a plan is made from.
@@ -218,6 +263,23 @@ pub(crate) fn sizes_of(alloc: Global, given: &ArgMatches<'_>) -> Result<Sizes, U
         planners: planners as usize,
         room: room as usize,
         limit: u64::from(limit),
+    })
+}
+
+/// Returns the sizes of a search, which has no limit: it stops at the first start.
+///
+/// # Errors
+///
+/// `Usage` if a number is missing; `NoMemory` if an allocation failed.
+pub(crate) fn search_sizes_of(alloc: Global, given: &ArgMatches<'_>) -> Result<Sizes, UsageFault>
+    ensures { Follows result (search_sizes_in (rows_of (found_of given.now))) }
+{
+    let planners = number_argument(alloc, given, "planners")?;
+    let room = number_argument(alloc, given, "room")?;
+    Ok(Sizes {
+        planners: planners as usize,
+        room: room as usize,
+        limit: 1,
     })
 }
 

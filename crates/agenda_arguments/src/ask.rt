@@ -7,7 +7,7 @@ use crate::names::JobNames;
 use agenda_codes::Code;
 use agenda_policy::Policy;
 use agenda_sources::{Asked, SourcePaths};
-use plan_collect::Sizes;
+use plan_collect::{PlanView, Sizes};
 use plan_texts::Text;
 use std::alloc::AllocError;
 use thiserror::Error;
@@ -90,12 +90,14 @@ pub enum MachineGoal {
         /// The text of a time. The starts are later.
         after: Text,
     },
-    /// All starts in a span.
+    /// The agenda of a span.
     Plan {
         /// The span.
         span: SpanRequest,
         /// The number of planners, the capacity of each one's ring, and the maximum number of starts.
         sizes: Sizes,
+        /// What is printed of the agenda.
+        view: PlanView,
     },
     /// The gaps of a span in which no job starts.
     Quiet {
@@ -227,7 +229,12 @@ pub enum Ask {
     /// Print the next starts of one rule.
     Next(NextRequest),
     /// Print the agenda of the jobs of crontabs and timers.
-    Plan(PlanRequest),
+    Plan {
+        /// What the agenda is made from.
+        plan: PlanRequest,
+        /// What is printed of it.
+        view: PlanView,
+    },
     /// Print when each job of crontabs and timers starts next.
     Upcoming {
         /// The text of a timestamp. The starts are later.

@@ -41,6 +41,9 @@ fn options_of(question: &str) -> Option<&'static str>
     match question {
         "plan" => Some(OF_SPAN),
         "quiet" => Some(OF_SPAN),
+        "downtime" => Some(OF_SPAN),
+        "clear" => Some(OF_SPAN),
+        "week" => Some(OF_SPAN),
         "upcoming" => Some(OF_START),
         "next" => Some(OF_START),
         _ => None,

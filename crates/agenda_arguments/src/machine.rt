@@ -1,12 +1,13 @@
 //! What the arguments of `agenda machine` request.
 ghost use Rattle.std.specs.Prelude.{◌≡◌, ◌++◌, ◌∷◌, IfOk, OnOk, codes, drop, map, string_bytes};
 ghost use Rattle.clap.specs.Words.{first_of, found_of, rows_of, subcommand_rows_of};
-ghost use Rattle.agenda_arguments.specs.Arguments.{Follows, Gives, asked_about_machine, asked_by_machine, asked_by_machine_check, asked_by_machine_describe, asked_by_machine_next, asked_by_machine_plan};
+ghost use Rattle.agenda_arguments.specs.Arguments.{Follows, Gives, asked_about_machine, asked_by_machine, asked_by_machine_check, asked_by_machine_clear, asked_by_machine_describe, asked_by_machine_downtime};
+ghost use Rattle.agenda_arguments.specs.Arguments.{asked_by_machine_next, asked_by_machine_plan, asked_by_machine_week};
 ghost use Rattle.agenda_arguments.specs.Arguments.{asked_by_machine_quiet, asked_by_machine_sources, asked_by_machine_upcoming};
 ghost use Rattle.agenda_arguments.specs.Arguments.{asked_by_question, asked_of_jobs, asked_of_machine, is_given, is_option};
-ghost use Rattle.agenda_arguments.specs.Arguments.{lacks_question, machine_format_in, machine_zone, span_in, table_in, with_question, zone_in};
+ghost use Rattle.agenda_arguments.specs.Arguments.{lacks_question, machine_format_in, machine_zone, span_in, table_for, table_in, with_question, zone_in};
 
-use crate::arguments::{no_subcommand, sizes_of, usage_fault};
+use crate::arguments::{no_subcommand, search_sizes_of, sizes_of, usage_fault};
 use crate::ask::{
     Ask, FormatRequest, MachineCheck, MachineDescribe, MachineGoal, MachineJobs, MachineNext,
     MachineQuestion, MachineRequest, SpanRequest, TableRequest, UsageFault,
@@ -18,6 +19,7 @@ use crate::values::{is_given, number_argument, text, text_if_given, text_of, val
 use agenda_options::machine_command;
 use agenda_sources::Asked;
 use clap::ArgMatches;
+use plan_collect::PlanView;
 use plan_texts::Text;
 use std::alloc::{AllocError, Global};
 
@@ -134,6 +136,9 @@ fn asked_by_question(alloc: Global, matches: &ArgMatches<'_>) -> Result<Ask, Usa
         "upcoming" => asked_by_machine_upcoming(alloc, given),
         "plan" => asked_by_machine_plan(alloc, given),
         "quiet" => asked_by_machine_quiet(alloc, given),
+        "downtime" => asked_by_machine_downtime(alloc, given),
+        "clear" => asked_by_machine_clear(alloc, given),
+        "week" => asked_by_machine_week(alloc, given),
         "check" => asked_by_machine_check(alloc, given),
         "sources" => asked_by_machine_sources(alloc, given),
         "next" => asked_by_machine_next(alloc, given),
@@ -173,7 +178,13 @@ fn asked_by_machine_plan(alloc: Global, given: &ArgMatches<'_>) -> Result<Ask, U
     let span = span_of(alloc, given)?;
     let sizes = sizes_of(alloc, given)?;
     let delays = is_given(given, "delays");
-    asked_of_jobs(alloc, given, delays, MachineGoal::Plan { span, sizes })
+    let view = PlanView::Starts;
+    asked_of_jobs(
+        alloc,
+        given,
+        delays,
+        MachineGoal::Plan { span, sizes, view },
+    )
 }
 
 fn asked_by_machine_quiet(alloc: Global, given: &ArgMatches<'_>) -> Result<Ask, UsageFault>
@@ -189,6 +200,42 @@ fn asked_by_machine_quiet(alloc: Global, given: &ArgMatches<'_>) -> Result<Ask, 
         delays,
         MachineGoal::Quiet { span, sizes, least },
     )
+}
+
+// Delays count.
+fn asked_by_machine_downtime(alloc: Global, given: &ArgMatches<'_>) -> Result<Ask, UsageFault>
+    ensures { Follows result (asked_by_machine_downtime (rows_of (found_of given.now))) }
+{
+    let span = span_of(alloc, given)?;
+    let sizes = sizes_of(alloc, given)?;
+    let view = PlanView::Downtime;
+    asked_of_jobs(alloc, given, true, MachineGoal::Plan { span, sizes, view })
+}
+
+// Delays count unless `--nominal` is given.
+fn asked_by_machine_clear(alloc: Global, given: &ArgMatches<'_>) -> Result<Ask, UsageFault>
+    ensures { Follows result (asked_by_machine_clear (rows_of (found_of given.now))) }
+{
+    let span = span_of(alloc, given)?;
+    let sizes = search_sizes_of(alloc, given)?;
+    let delays = !is_given(given, "nominal");
+    let view = PlanView::First;
+    asked_of_jobs(
+        alloc,
+        given,
+        delays,
+        MachineGoal::Plan { span, sizes, view },
+    )
+}
+
+// Delays don't count.
+fn asked_by_machine_week(alloc: Global, given: &ArgMatches<'_>) -> Result<Ask, UsageFault>
+    ensures { Follows result (asked_by_machine_week (rows_of (found_of given.now))) }
+{
+    let span = span_of(alloc, given)?;
+    let sizes = sizes_of(alloc, given)?;
+    let view = PlanView::Week;
+    asked_of_jobs(alloc, given, false, MachineGoal::Plan { span, sizes, view })
 }
 
 fn asked_by_machine_next(alloc: Global, given: &ArgMatches<'_>) -> Result<Ask, UsageFault>
@@ -252,7 +299,7 @@ fn asked_of_jobs(
 {
     let zone = machine_zone(alloc, given)?;
     let except = names_of(alloc, given, "except")?;
-    let table = table_of(alloc, given)?;
+    let table = table_for(alloc, given, &goal)?;
     let strict = is_given(given, "strict");
     let format = format_of(given);
     let jobs = MachineJobs {
@@ -265,6 +312,27 @@ fn asked_of_jobs(
         table,
     };
     asked_of_machine(alloc, given, MachineQuestion::Jobs(jobs))
+}
+
+// Returns whether the answer for a goal is a table. The hours of a week and a first start have none.
+fn table_for(
+    alloc: Global,
+    given: &ArgMatches<'_>,
+    goal: &MachineGoal,
+) -> Result<TableRequest, UsageFault>
+    ensures { Follows result (table_for goal.now (rows_of (found_of given.now))) }
+{
+    match goal {
+        MachineGoal::Plan {
+            view: PlanView::Week,
+            ..
+        } => Ok(TableRequest::Never),
+        MachineGoal::Plan {
+            view: PlanView::First,
+            ..
+        } => Ok(TableRequest::Never),
+        _ => table_of(alloc, given),
+    }
 }
 
 // Returns whether the answer is a table. At most one of its forms may be given.

@@ -10,23 +10,23 @@ use Rattle.agenda_commands.specs.Goal.{Makes}
 
 -- there are no jobs, and their error was passed on
 pub rejected :
-    (Answers : Result (List JobParts) RunFault → Result (List ℕ) RunFault → Type 0) (jobs : Result (List JobParts) RunFault)
-    (fault : RunFault) (result : Result (List ℕ) RunFault) →
+    {A : Type 0} (view : A → List ℕ) (Answers : Result (List JobParts) RunFault → Result (List ℕ) RunFault → Type 0)
+    (jobs : Result (List JobParts) RunFault) (fault : RunFault) (result : Result A RunFault) →
     ((found : RunFault) → Answers (Err found) (Err found)) →
     (fault ≢ NoMemory → jobs ≡ Err fault) → IsErrAnd result (λ found. found ≡ fault) →
-    Makes (Answers jobs) (λ text. text) result
-rejected Answers jobs fault (Ok text) own is passed = absurd passed
-rejected Answers jobs fault (Err found) own is passed =
+    Makes (Answers jobs) view result
+rejected view Answers jobs fault (Ok made) own is passed = absurd passed
+rejected view Answers jobs fault (Err found) own is passed =
     λ other. let same : jobs ≡ Err found = is (λ memory. other (passed ∙ memory)) ∙ ap Err (sym passed) in
     subst (λ js. Answers js (Err found)) (sym same) (own found)
 
 -- the goal's own error was passed on
 pub failed :
-    (Answers : Result (List ℕ) RunFault → Type 0) (fault : RunFault) (result : Result (List ℕ) RunFault) →
+    {A : Type 0} (view : A → List ℕ) (Answers : Result (List ℕ) RunFault → Type 0) (fault : RunFault) (result : Result A RunFault) →
     (fault ≢ NoMemory → Answers (Err fault)) → IsErrAnd result (λ found. found ≡ fault) →
-    Makes Answers (λ text. text) result
-failed Answers fault (Ok text) is passed = absurd passed
-failed Answers fault (Err found) is passed =
+    Makes Answers view result
+failed view Answers fault (Ok made) is passed = absurd passed
+failed view Answers fault (Err found) is passed =
     λ other. subst (λ f. Answers (Err f)) (sym passed) (is (λ memory. other (passed ∙ memory)))
 
 -- an error of the first source, which was found at once, was passed on
@@ -46,3 +46,10 @@ pub passed_at_once :
 passed_at_once (Ok n) made fault result is first passed = tt
 passed_at_once (Err found) made fault (Ok done) is first passed = absurd passed
 passed_at_once (Err found) made fault (Err other) is first passed = cc
+
+-- an error of the goal, which is found at once, is none of what was made
+pub made_at_once :
+    {N A B : Type 0} (checked : Result N RunFault) (made : A) (answer : B) →
+    IfErr checked (λ found. Ok made ≡ Err found) → IfErr checked (λ found. Ok answer ≡ Err found)
+made_at_once (Ok n) made answer first = tt
+made_at_once (Err found) made answer first = absurd cc

@@ -1,14 +1,23 @@
 -- What is made of jobs, by a goal: its text and its errors. All of it is our choice (agenda).
-use Rattle.std.specs.Prelude.{◌≡◌, ◌≢◌, ⊤, ℕ, ◌==◌, if◌then◌else◌, Bool, List, length, map, Option, None, Some, Result, Ok, Err}
+use Rattle.std.specs.Prelude.{◌≡◌, ◌≢◌, ⊤, ℕ, ◌==◌, if◌then◌else◌, Bool, true, false, List, [], is_some, length, map, Option, None, Some, Result, Ok, Err, slice_get}
+use Rattle.std.specs.List.{cons_option}
 use Rattle.plan_texts.specs.Steps.{◌>>=◌}
 use Rattle.plan_rules.specs.Job.{JobParts}
 use Rattle.plan_rules.specs.Delays.{counted}
-use Rattle.plan_collect.specs.Agenda.{IsOfJobs, Planned}
+use Rattle.plan_clock.specs.declared.row.Change.{Change}
+use Rattle.plan_collect.specs.Agenda.{IsInYears, IsOfJobs, Planned}
 use Rattle.plan_collect.specs.Planning.{plan_answer, valid_sizes}
-use Rattle.plan_collect.specs.Windows.{timings_of}
+use Rattle.plan_collect.specs.Windows.{agenda_of_windows, timings_of}
+use Rattle.plan_collect.specs.declared.PlanView.{PlanView}
+use Rattle.plan_collect.specs.declared.PlanView.TheVariants as view
+use Rattle.plan_downtime.specs.Downtime.{missed_starts}
+use Rattle.plan_downtime.specs.Lines.{downtime_text}
+use Rattle.plan_rules.specs.declared.NamedZone.{NamedZone}
+use Rattle.plan_week.specs.Week.{week_of}
+use Rattle.plan_week.specs.Texts.{week_text}
 use Rattle.plan_collect.specs.declared.sizes.Sizes.{Sizes}
 use Rattle.plan_write.specs.Quiet.{quiet_text}
-use Rattle.plan_write.specs.Texts.{EndParts, line_end, object_ends, text_by_ends}
+use Rattle.plan_write.specs.Texts.{EndParts, line_end, lines_of, object_ends, text_by_ends}
 use Rattle.plan_write.specs.Upcoming.{AreUpcoming, upcoming_text}
 use Rattle.plan_write.specs.declared.Format.{Format}
 use Rattle.plan_write.specs.declared.JobFile.{JobFile}
@@ -33,11 +42,17 @@ abbrev pub valid_goal : Goal → Result (Unit {0}) RunFault
 valid_goal (goal.Quiet planning least) = if least == 0 then Err BadLeast else Ok tt
 valid_goal other = Ok tt
 
+-- the answer has a table of its own. The hours of a week and a first entry alone are lines in each form
+abbrev pub has_table : Goal → Bool
+has_table (goal.Plan planning view.Week) = false
+has_table (goal.Plan planning view.First) = false
+has_table other = true
+
 -- the sizes of the goal's plan are valid
 abbrev pub sized_goal : Goal → Result Goal RunFault
-sized_goal (goal.Plan planning) = do
+sized_goal (goal.Plan planning view) = do
   sizes ← checked_sizes planning
-  Ok (goal.Plan planning)
+  Ok (goal.Plan planning view)
 sized_goal (goal.Upcoming after delays) = Ok (goal.Upcoming after delays)
 sized_goal (goal.Quiet planning least) = do
   sizes ← checked_sizes planning
@@ -66,6 +81,50 @@ plan_output format files jobs planning = do
   made ← agenda_of_jobs jobs planning
   Ok (text_by_ends format planning.delays made (ends_of format files jobs))
 
+-- what `downtime` writes for the jobs that are planned: what each of them misses
+abbrev pub downtime_output : Format → (files : Option (List JobFile)) → List JobParts → Planning → Result (List ℕ) RunFault
+downtime_output format files jobs planning = do
+  made ← agenda_of_jobs jobs planning
+  Ok (downtime_text format (ends_of format files jobs) (missed_starts jobs made))
+
+-- the clock by which times are shown: that of a zone if one is given, and otherwise UTC
+abbrev pub clock_of : (local : Option NamedZone) → List Change
+clock_of None = []
+clock_of (Some zone) = zone.clock
+
+-- what `week` writes for the jobs that are planned: the starts of each hour
+abbrev pub week_output : Format → List JobParts → Planning → Result (List ℕ) RunFault
+week_output format jobs planning = do
+  made ← agenda_of_jobs jobs planning
+  Ok (week_text format (week_of (clock_of format.local) made) made)
+
+-- the first entry of the agenda of the jobs that are planned, if it has one
+abbrev pub first_of : List JobParts → Planning → Option (ℕ × ℕ)
+first_of jobs planning = slice_get (agenda_of_windows (timings_of jobs) planning.span) 0
+
+-- whether the answer for jobs says that one may start in the span: only the first entry is asked for that
+abbrev pub finds_start : Goal → List JobParts → Bool
+finds_start (goal.Plan planning view.First) jobs = is_some (first_of (counted planning.delays jobs) planning)
+finds_start other jobs = false
+
+-- the same, if there are jobs
+abbrev pub finds_in : Goal → Result (List JobParts) RunFault → Bool
+finds_in goal (Err fault) = false
+finds_in goal (Ok jobs) = finds_start goal jobs
+
+-- what `clear` writes for the jobs that are planned: the line of the first entry. The limit of entries doesn't count
+abbrev pub first_output : Format → (files : Option (List JobFile)) → List JobParts → Planning → Result (List ℕ) RunFault
+first_output format files jobs planning = do
+  sizes ← checked_sizes planning
+  Ok (lines_of format planning.delays (cons_option (first_of jobs planning) []) (ends_of format files jobs))
+
+-- what a view of the agenda is, for the jobs that are planned
+abbrev pub view_output : PlanView → Format → (files : Option (List JobFile)) → List JobParts → Planning → Result (List ℕ) RunFault
+view_output view.Starts format files jobs planning = plan_output format files jobs planning
+view_output view.Downtime format files jobs planning = downtime_output format files jobs planning
+view_output view.Week format files jobs planning = week_output format jobs planning
+view_output view.First format files jobs planning = first_output format files jobs planning
+
 -- what `quiet` writes for the jobs that are planned: the gaps of their agenda that last at least `least` seconds
 abbrev pub quiet_output : Format → List JobParts → Planning → (least : ℕ) → Result (List ℕ) RunFault
 quiet_output format jobs planning least = do
@@ -83,8 +142,8 @@ IsTextOfNexts format files jobs after delays text =
 abbrev pub AnswersWithFiles :
     (files : Option (List JobFile)) → Format → Goal → Result (List JobParts) RunFault → Result (List ℕ) RunFault → Type 0
 AnswersWithFiles files format goal (Err fault) answer = Err fault ≡ answer
-AnswersWithFiles files format (goal.Plan planning) (Ok jobs) answer =
-    plan_output format files (counted planning.delays jobs) planning ≡ answer
+AnswersWithFiles files format (goal.Plan planning view) (Ok jobs) answer =
+    view_output view format files (counted planning.delays jobs) planning ≡ answer
 AnswersWithFiles files format (goal.Upcoming after delays) (Ok jobs) (Ok text) = IsTextOfNexts format files jobs after delays text
 AnswersWithFiles files format (goal.Upcoming after delays) (Ok jobs) (Err fault) = ⊥
 AnswersWithFiles files format (goal.Quiet planning least) (Ok jobs) answer =
@@ -110,10 +169,19 @@ Makes Answers view (Err fault) = fault ≢ NoMemory → Answers (Err fault)
 -- its text, in its format
 abbrev pub text_of : Format → Made → List ℕ
 text_of format (made.Plan agenda ends delays) = text_by_ends format delays agenda ends
+text_of format (made.Downtime missed ends) = downtime_text format ends missed.items
+text_of format (made.Week agenda week) = week_text format week agenda
+text_of format (made.First first ends delays) = lines_of format delays (cons_option first []) ends
 text_of format (made.Upcoming nexts ends delays) = upcoming_text format delays nexts ends
 text_of format (made.Quiet agenda jobs least) = quiet_text format least agenda jobs
 
--- an agenda is one of as many jobs as there are ends of lines
+-- whether it says that a job may start in the span
+abbrev pub finds : Made → Bool
+finds (made.First first ends delays) = is_some first
+finds other = false
+
+-- an agenda is one of as many jobs as there are ends of lines, and a first entry is in the planner's years
 abbrev pub CanBeWritten : Made → Type 0
 CanBeWritten (made.Plan agenda ends delays) = IsOfJobs (length ends) agenda.entries
+CanBeWritten (made.First first ends delays) = IsInYears (cons_option first [])
 CanBeWritten other = ⊤

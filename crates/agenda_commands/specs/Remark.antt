@@ -1,5 +1,5 @@
 -- What is said about an answer, apart from the answer. All of it is our choice (agenda).
-use Rattle.std.specs.Prelude.{◌≡◌, ℕ, List, Option, None, Result, Ok, Err}
+use Rattle.std.specs.Prelude.{◌≡◌, ℕ, Bool, List, Option, None, Result, Ok, Err}
 use Rattle.std.specs.Result.{result_map_both}
 use Rattle.agenda_cover.specs.Remark.{remark}
 use Rattle.plan_collect.specs.Agenda.{Planned}
@@ -13,7 +13,7 @@ use Rattle.agenda_commands.specs.declared.goal.Goal.{Goal}
 use Rattle.agenda_commands.specs.declared.goal.Goal.TheVariants as goal
 use Rattle.agenda_commands.specs.declared.prepare.Form.{Form}
 use Rattle.agenda_commands.specs.declared.prepare.Form.TheVariants as form
-use Rattle.agenda_commands.specs.declared.remark.RemarkedAnswer.{RemarkedAnswer}
+use Rattle.agenda_commands.specs.declared.prepare.RemarkedAnswer.{RemarkedAnswer}
 
 -- why the agenda of a plan has no gap of at least `least` seconds, if it has none
 abbrev pub remark_of_plan : (least : ℕ) → Result Planned RunFault → List JobParts → Option (List ℕ)
@@ -31,6 +31,6 @@ abbrev pub IsOfGaps : Form → (least : ℕ) → Planned → List JobParts → L
 IsOfGaps (form.Lines format) least made jobs text = text ≡ quiet_text format least made jobs
 IsOfGaps (form.Table table) least made jobs text = IsQuietTable table least made jobs text
 
--- an answer about which nothing is said
-abbrev pub unremarked : Result (List ℕ) RunFault → Result RemarkedAnswer RunFault
-unremarked answer = result_map_both (λ text. record { answer = text; remark = None }) (λ fault. fault) answer
+-- an answer about which nothing is said, but whether it is a first entry
+abbrev pub unremarked : Result (List ℕ × Bool) RunFault → Result RemarkedAnswer RunFault
+unremarked answer = result_map_both (λ made. record { answer = made.0; remark = None; finds_start = made.1 }) (λ fault. fault) answer

@@ -1,6 +1,11 @@
 -- What is made of jobs, by a goal, as a table. All of it is our choice (agenda).
 use Rattle.std.specs.Prelude.{◌≡◌, ℕ, min, Bool, List, ◌∷◌, chars, codes, length, map, Result, Ok, Err}
+use Rattle.agenda_downtime.specs.Last.{missed_text}
+use Rattle.agenda_downtime.specs.Rows.{downtime_rows, missed_texts, missed_times}
 use Rattle.plan_collect.specs.Agenda.{Planned}
+use Rattle.plan_collect.specs.declared.PlanView.{PlanView}
+use Rattle.plan_collect.specs.declared.PlanView.TheVariants as view
+use Rattle.plan_downtime.specs.Downtime.{missed_starts}
 use Rattle.plan_rules.specs.Delays.{counted}
 use Rattle.plan_rules.specs.Job.{JobParts}
 use Rattle.plan_sets.specs.Limits.{end_second}
@@ -37,6 +42,22 @@ IsPlanTable form delays made jobs text =
     × (text ≡ text_of_rows form (job_rows (look_of form dates) delays made.entries (map job_texts jobs))
     (span_text (look_of form dates) (length made.entries) (codes "start") made.span.since made.span.upto form.zone.name))
 
+-- this is the table of what jobs miss while the machine is down for the span of their agenda
+abbrev pub IsDowntimeTable : TableForm → Planned → List JobParts → List ℕ → Type 0
+IsDowntimeTable form made jobs text =
+    (dates : List ℕ)
+    × AreDatesOf form.zone.clock
+    (made.span.since ∷ made.span.upto ∷ missed_times (missed_texts jobs (missed_starts jobs made))) dates
+    × (text ≡ text_of_rows form (downtime_rows (look_of form dates) (missed_texts jobs (missed_starts jobs made)))
+    (missed_text (look_of form dates) (missed_texts jobs (missed_starts jobs made)) made.span.since made.span.upto form.zone.name))
+
+-- this is the table of a view of an agenda of jobs; a view without a table of its own has that of all starts
+abbrev pub IsViewTable : PlanView → TableForm → (delays : Bool) → Planned → List JobParts → List ℕ → Type 0
+IsViewTable view.Starts form delays made jobs text = IsPlanTable form delays made jobs text
+IsViewTable view.Downtime form delays made jobs text = IsDowntimeTable form made jobs text
+IsViewTable view.Week form delays made jobs text = IsPlanTable form delays made jobs text
+IsViewTable view.First form delays made jobs text = IsPlanTable form delays made jobs text
+
 -- this is the table of the next starts of jobs after a time; a time after the planner's years is shown as their end
 abbrev pub IsNextsTable : TableForm → List JobParts → (after : ℕ) → (delays : Bool) → List ℕ → Type 0
 IsNextsTable form jobs after delays text =
@@ -70,8 +91,8 @@ AnswersPlan IsTable made answer = ⊥
 -- the answer for jobs, or the first error: that of the jobs, or else that of the goal. The next starts of jobs have none
 abbrev pub AnswersTable : TableForm → Goal → Result (List JobParts) RunFault → Result (List ℕ) RunFault → Type 0
 AnswersTable form goal (Err fault) answer = Err fault ≡ answer
-AnswersTable form (goal.Plan planning) (Ok jobs) answer =
-    AnswersPlan (λ made text. IsPlanTable form planning.delays made (counted planning.delays jobs) text)
+AnswersTable form (goal.Plan planning view) (Ok jobs) answer =
+    AnswersPlan (λ made text. IsViewTable view form planning.delays made (counted planning.delays jobs) text)
     (agenda_of_jobs (counted planning.delays jobs) planning) answer
 AnswersTable form (goal.Upcoming after delays) (Ok jobs) (Ok text) = IsNextsTable form jobs after delays text
 AnswersTable form (goal.Upcoming after delays) (Ok jobs) (Err fault) = ⊥
@@ -84,6 +105,7 @@ AnswersTable form (goal.Quiet planning least) (Ok jobs) answer =
 -- its rows
 abbrev pub rows_of_table : LookParts → TableRows → List (List (List ℕ))
 rows_of_table look (rows.Plan agenda cells delays) = job_rows look delays agenda.entries cells
+rows_of_table look (rows.Downtime missed) = downtime_rows look missed
 rows_of_table look (rows.Upcoming nexts cells delays) = job_rows look delays nexts cells
 rows_of_table look (rows.Quiet gaps) = gap_rows look gaps
 rows_of_table look (rows.Next starts count) = start_rows look count starts.items

@@ -1,18 +1,27 @@
 //! What a request makes of jobs, before a byte of it is written.
 
-ghost use Rattle.std.specs.Prelude.{◌≡◌, Err, IfErr, IfOk, IsTrue, Ok, OnOk, length, option_map};
+ghost use Rattle.std.specs.Prelude.{◌≡◌, Err, IfErr, IfOk, IsTrue, List, Ok, OnOk, Option, false, length, option_map};
 ghost use Rattle.plan_rules.specs.Delays.{counted};
 ghost use Rattle.agenda_commands.specs.Form.{origin_at, origin_of};
-ghost use Rattle.agenda_commands.specs.Goal.{AnswersGoal, AnswersWithFiles, CanBeWritten, Makes, checked_sizes, ends_of, sized_goal, text_of, valid_goal};
+ghost use Rattle.agenda_commands.specs.Goal.{AnswersGoal, AnswersWithFiles, CanBeWritten, Makes, checked_sizes, clock_of, ends_of, finds, finds_start, has_table, sized_goal, text_of, valid_goal, week_output};
 ghost use Rattle.agenda_commands.specs.declared.goal.Goal.TheVariants.{Plan, Quiet, Upcoming as Nexts};
+ghost use Rattle.plan_collect.specs.declared.PlanView.TheVariants as view;
 ghost use Rattle.plan_streams.specs.Stream.{Puts};
+ghost use Rattle.plan_week.specs.Week.{week_of};
 
 use crate::agenda_of::make_agenda;
 use agenda_faults::RunFault;
-use plan_collect::{Agenda, Sizes, Span};
-use plan_rules::Jobs;
+use plan_clear::first_entry;
+use plan_clock::Clock;
+use plan_collect::{Agenda, PlanView, Sizes, Span, Start};
+use plan_downtime::{Missed, missed_starts, write_downtime};
+use plan_rules::{Jobs, NamedZone};
 use plan_streams::{Stream, WriteFault};
-use plan_write::{Format, JobFile, LineEnds, Upcoming, write_agenda, write_quiet, write_upcoming};
+use plan_threads::Task;
+use plan_week::{Week, write_week};
+use plan_write::{
+    Format, JobFile, LineEnds, Upcoming, write_agenda, write_entry, write_quiet, write_upcoming,
+};
 use std::alloc::{AllocError, Global};
 use std::sync::Wait;
 use std::thread::Threads;
@@ -32,8 +41,13 @@ pub struct Planning {
 /// What a command makes of its jobs.
 #[derive(Clone, Copy, Debug)]
 pub enum Goal {
-    /// The agenda.
-    Plan(Planning),
+    /// The agenda, or a view of it.
+    Plan {
+        /// How the agenda is made.
+        planning: Planning,
+        /// What is printed of it.
+        view: PlanView,
+    },
     /// The next start of each job.
     Upcoming {
         /// The starts are later than this, in seconds since 1970-01-01T00:00:00Z.
@@ -55,6 +69,12 @@ pub enum Goal {
 pub(crate) enum Made {
     // An agenda, with the ends of its lines, and whether its lines have the latest starts.
     Plan(Agenda, LineEnds, bool),
+    // What jobs miss, with the ends of their lines.
+    Downtime(Vec<Missed>, LineEnds),
+    // The starts of the hours of an agenda.
+    Week(Agenda, Week),
+    // The first entry of an agenda, with the ends of its lines, and whether its lines have the latest starts.
+    First(Option<Start>, LineEnds, bool),
     // The next starts of jobs, with the ends of their lines, and whether the lines have the latest starts.
     Upcoming(Upcoming, LineEnds, bool),
     // An agenda of these jobs that is searched for gaps of at least so many seconds.
@@ -67,11 +87,24 @@ impl Goal {
         ensures { result ≡ origin_of self.now now }
     {
         let start = match self {
-            Goal::Plan(planning) => planning.span.since(),
+            Goal::Plan { planning, .. } => planning.span.since(),
             Goal::Upcoming { after, .. } => *after,
             Goal::Quiet { planning, .. } => planning.span.since(),
         };
         origin_at(start, now)
+    }
+
+    // Returns whether the answer has a table of its own.
+    pub(crate) fn has_table(&self) -> bool
+        ensures { result ≡ has_table self.now }
+    {
+        !matches!(
+            self,
+            Goal::Plan {
+                view: PlanView::Week | PlanView::First,
+                ..
+            }
+        )
     }
 
     // Checks the minimum length of a gap, which is at least 1 second.
@@ -104,16 +137,126 @@ pub(crate) fn make<R: Threads + Wait + Sync>(
     ensures made { Makes (AnswersWithFiles (option_map (λ files. files.now) files.entry) format.now goal.now (Ok jobs))
         (text_of format.now) result }
     ensures written { IfOk result CanBeWritten }
+    ensures finds { IfOk result (λ made. finds made ≡ finds_start goal.now jobs) }
 
     // These errors are found before any memory is requested.
     ensures at_once { IfErr (sized_goal goal.now) (λ fault. result ≡ Err fault) }
 {
     match goal {
-        Goal::Plan(planning) => make_plan(rt, alloc, jobs, planning, format, files),
+        Goal::Plan { planning, view } => {
+            make_view(rt, alloc, jobs, planning, *view, format, files)
+        }
         Goal::Upcoming { after, delays } => {
             make_upcoming(alloc, jobs, *after, *delays, format, files)
         }
         Goal::Quiet { planning, least } => make_quiet(rt, alloc, jobs, planning, *least, format),
+    }
+}
+
+// Makes a view of the agenda of jobs.
+fn make_view<R: Threads + Wait + Sync>(
+    rt: &R,
+    alloc: Global,
+    jobs: Jobs,
+    planning: &Planning,
+    view: PlanView,
+    format: &Format,
+    files: Option<&[JobFile]>,
+) -> Result<Made, RunFault>
+    ensures made { Makes (AnswersWithFiles (option_map (λ files. files.now) files.entry) format.now (Plan planning.now view) (Ok jobs))
+        (text_of format.now) result }
+    ensures written { IfOk result CanBeWritten }
+    ensures finds { IfOk result (λ made. finds made ≡ finds_start (Plan planning.now view) jobs) }
+    ensures at_once { IfErr (checked_sizes planning.now) (λ fault. result ≡ Err fault) }
+{
+    match view {
+        PlanView::Starts => make_plan(rt, alloc, jobs, planning, format, files),
+        PlanView::Downtime => make_downtime(rt, alloc, jobs, planning, format, files),
+        PlanView::Week => make_week(rt, alloc, jobs, planning, format),
+        PlanView::First => make_first(alloc, jobs, planning, format, files),
+    }
+}
+
+// Makes what jobs miss while the machine is down.
+fn make_downtime<R: Threads + Wait + Sync>(
+    rt: &R,
+    alloc: Global,
+    jobs: Jobs,
+    planning: &Planning,
+    format: &Format,
+    files: Option<&[JobFile]>,
+) -> Result<Made, RunFault>
+    ensures made { Makes (AnswersWithFiles (option_map (λ files. files.now) files.entry) format.now (Plan planning.now view.Downtime) (Ok jobs))
+        (text_of format.now) result }
+    ensures written { IfOk result CanBeWritten }
+    ensures finds { IfOk result (λ made. finds made ≡ false) }
+    ensures at_once { IfErr (checked_sizes planning.now) (λ fault. result ≡ Err fault) }
+{
+    let jobs = counted(jobs, planning.delays);
+    let agenda = make_agenda(rt, alloc, &jobs, planning)?;
+    let missed = missed_starts(alloc, &agenda, &jobs)?;
+    let ends = ends_of(alloc, &jobs, format, files)?;
+    Ok(Made::Downtime(missed, ends))
+}
+
+// Makes the starts of the hours of the agenda of jobs.
+fn make_week<R: Threads + Wait + Sync>(
+    rt: &R,
+    alloc: Global,
+    jobs: Jobs,
+    planning: &Planning,
+    format: &Format,
+) -> Result<Made, RunFault>
+    ensures made { Makes (λ answer. week_output format.now (counted planning.now.delays jobs) planning.now ≡ answer) (text_of format.now) result }
+    ensures written { IfOk result CanBeWritten }
+    ensures finds { IfOk result (λ made. finds made ≡ false) }
+    ensures at_once { IfErr (checked_sizes planning.now) (λ fault. result ≡ Err fault) }
+{
+    let jobs = counted(jobs, planning.delays);
+    let agenda = make_agenda(rt, alloc, &jobs, planning)?;
+    let week = week_of(alloc, &agenda, &format.local)?;
+    Ok(Made::Week(agenda, week))
+}
+
+// Returns the starts of the hours of an agenda, by the clock of a zone if one is given, and otherwise in UTC.
+fn week_of(alloc: Global, agenda: &Agenda, local: &Option<NamedZone>) -> Result<Week, AllocError>
+    ensures { IfOk result (λ week. week ≡ week_of (clock_of local.now) agenda.now) }
+{
+    match local {
+        Some(zone) => Week::new(alloc, agenda, &zone.clock),
+        None => Week::new(alloc, agenda, &Clock::utc()),
+    }
+}
+
+// Makes the first entry of the agenda of jobs, which is searched for by itself.
+fn make_first(
+    alloc: Global,
+    jobs: Jobs,
+    planning: &Planning,
+    format: &Format,
+    files: Option<&[JobFile]>,
+) -> Result<Made, RunFault>
+    ensures made { Makes (AnswersWithFiles (option_map (λ files. files.now) files.entry) format.now (Plan planning.now view.First) (Ok jobs))
+        (text_of format.now) result }
+    ensures written { IfOk result CanBeWritten }
+    ensures finds { IfOk result (λ made. finds made ≡ finds_start (Plan planning.now view.First) jobs) }
+    ensures at_once { IfErr (checked_sizes planning.now) (λ fault. result ≡ Err fault) }
+{
+    check_sizes(planning)?;
+    let jobs = counted(jobs, planning.delays);
+    let first = first_entry(&jobs, planning.span);
+    let ends = ends_of(alloc, &jobs, format, files)?;
+    Ok(Made::First(first, ends, planning.delays))
+}
+
+// Checks the sizes of a plan.
+fn check_sizes(planning: &Planning) -> Result<(), RunFault>
+    ensures valid { IfOk result (λ _. checked_sizes planning.now ≡ Ok planning.now.sizes) }
+    ensures fault { IfErr result (λ fault. checked_sizes planning.now ≡ Err fault) }
+{
+    match Task::new(planning.span, planning.sizes) {
+        Ok(_) => Ok(()),
+        Err(fault) => Err(RunFault::from(fault)),
     }
 }
 
@@ -126,9 +269,10 @@ fn make_plan<R: Threads + Wait + Sync>(
     format: &Format,
     files: Option<&[JobFile]>,
 ) -> Result<Made, RunFault>
-    ensures made { Makes (AnswersWithFiles (option_map (λ files. files.now) files.entry) format.now (Plan planning.now) (Ok jobs))
+    ensures made { Makes (AnswersWithFiles (option_map (λ files. files.now) files.entry) format.now (Plan planning.now view.Starts) (Ok jobs))
         (text_of format.now) result }
     ensures written { IfOk result CanBeWritten }
+    ensures finds { IfOk result (λ made. finds made ≡ false) }
     ensures at_once { IfErr (checked_sizes planning.now) (λ fault. result ≡ Err fault) }
 {
     let jobs = counted(jobs, planning.delays);
@@ -149,6 +293,7 @@ fn make_upcoming(
     ensures made { Makes (AnswersWithFiles (option_map (λ files. files.now) files.entry) format.now (Nexts after delays) (Ok jobs))
         (text_of format.now) result }
     ensures written { IfOk result CanBeWritten }
+    ensures finds { IfOk result (λ made. finds made ≡ false) }
 {
     let upcoming = Upcoming::new(alloc, &jobs, after)?;
     let ends = ends_of(alloc, &jobs, format, files)?;
@@ -183,6 +328,7 @@ fn make_quiet<R: Threads + Wait + Sync>(
     ensures made { Makes (AnswersGoal format.now (Quiet planning.now least) (Ok jobs)) (text_of format.now) result }
     ensures written { IfOk result CanBeWritten }
     ensures at_once { IfErr (checked_sizes planning.now) (λ fault. result ≡ Err fault) }
+    ensures finds { IfOk result (λ made. finds made ≡ false) }
 {
     let jobs = counted(jobs, planning.delays);
     let agenda = make_agenda(rt, alloc, &jobs, planning)?;
@@ -190,6 +336,16 @@ fn make_quiet<R: Threads + Wait + Sync>(
 }
 
 impl Made {
+    // Returns whether it says that a job may start in the span.
+    pub(crate) fn finds_start(&self) -> bool
+        ensures { result ≡ finds self.now }
+    {
+        match self {
+            Made::First(first, _, _) => first.is_some(),
+            _ => false,
+        }
+    }
+
     // Writes the text of the result.
     pub(crate) fn write<S: Stream>(&self, format: &Format, out: &mut S) -> Result<(), WriteFault>
         requires { CanBeWritten self.now }
@@ -198,6 +354,9 @@ impl Made {
     {
         match self {
             Made::Plan(agenda, ends, delays) => write_agenda(agenda, ends, format, *delays, out),
+            Made::Downtime(missed, ends) => write_downtime(missed, ends, format, out),
+            Made::Week(agenda, week) => write_week(week, agenda, format, out),
+            Made::First(first, ends, delays) => write_entry(*first, ends, format, *delays, out),
             Made::Upcoming(upcoming, ends, delays) => {
                 write_upcoming(upcoming, ends, format, *delays, out)
             }

@@ -4,7 +4,7 @@ ghost use Rattle.std.specs.Prelude.{◌≡◌, [], None, Err, IfErr, IfOk, IfSom
 ghost use Rattle.agenda_sources.specs.AtOnce.{fault_at_once};
 ghost use Rattle.agenda_faults.specs.Faults.{fault_of_sources};
 ghost use Rattle.agenda_faults.specs.declared.faults.RunFault.TheVariants.{NoMemory};
-ghost use Rattle.agenda_commands.specs.Goal.{AnswersGoal, Makes, checked_goal, checked_jobs, valid_goal};
+ghost use Rattle.agenda_commands.specs.Goal.{AnswersGoal, Makes, checked_goal, checked_jobs, finds_in, valid_goal};
 ghost use Rattle.agenda_commands.specs.Prepare.{HasJobs, IsReady, errors_if, jobs_if, jobs_or, prepared_text};
 ghost use Rattle.plan_texts.specs.Steps.{GivesUnless};
 ghost use Rattle.plan_streams.specs.Stream.{Puts};
@@ -53,6 +53,17 @@ impl Model for PreparedAnswer {
     ghost invariant = { λ answer. IsReady answer.answer };
 }
 
+/// An answer before it is written, and what is said about it.
+#[derive(Drop)]
+pub struct RemarkedAnswer {
+    /// The answer.
+    pub answer: PreparedAnswer,
+    /// A line for people, if there is something to say.
+    pub remark: Option<Text>,
+    /// Whether the answer is the first entry of an agenda: then a job may start in the span.
+    pub finds_start: bool,
+}
+
 /// Returns the errors of sources and the jobs that are left without them, if a request keeps going. If it doesn't,
 /// returns neither.
 ///
@@ -77,7 +88,8 @@ pub fn kept_if(
 }
 
 /// Prepares the answer that `goal` requests, in a format. Its jobs are those that were kept, or else all jobs of the
-/// sources. Nothing is written. The function waits for the planners of a plan.
+/// sources. Nothing is said about the answer, but whether it is a first entry. Nothing is written. The function waits for
+/// the planners of a plan.
 ///
 /// The planners of the goal's sizes search for the starts, each in its own thread.
 ///
@@ -99,8 +111,9 @@ pub fn prepare_answer<R: Threads + Wait + Sync>(
     zones: &TimeZones,
     goal: &Goal,
     format: Format,
-) -> Result<PreparedAnswer, RunFault>
-    ensures answer { Makes (AnswersGoal format goal.now (checked_jobs goal.now (jobs_or kept zones.now sources.now))) (λ text. text) result }
+) -> Result<RemarkedAnswer, RunFault>
+    ensures answer { Makes (AnswersGoal format goal.now (checked_jobs goal.now (jobs_or kept zones.now sources.now))) (λ made. made.answer) result }
+    ensures finds { IfOk result (λ made. made.finds_start ≡ finds_in goal.now (jobs_or kept zones.now sources.now)) }
 
     // These errors are found before any memory is requested.
     ensures bad_least { IfErr (valid_goal goal.now) (λ fault. result ≡ Err fault) }
@@ -110,8 +123,14 @@ pub fn prepare_answer<R: Threads + Wait + Sync>(
     goal.check()?;
     let jobs = jobs_or(alloc, kept, sources, zones)?;
     let made = make(rt, alloc, jobs, goal, &format, None)?;
-    Ok(PreparedAnswer {
+    let finds_start = made.finds_start();
+    let answer = PreparedAnswer {
         answer: Prepared::Lines(made, format),
+    };
+    Ok(RemarkedAnswer {
+        answer,
+        remark: None,
+        finds_start,
     })
 }
 

@@ -1,8 +1,8 @@
 //! Prepares the answer for jobs in a form, with what is said about it: why there is no gap that is long enough.
 
-ghost use Rattle.std.specs.Prelude.{◌≡◌, Err, IfErr, IfOk, Ok, option_map};
+ghost use Rattle.std.specs.Prelude.{◌≡◌, Err, IfErr, IfOk, Ok, false, option_map};
 ghost use Rattle.agenda_commands.specs.Form.{AnswersForm};
-ghost use Rattle.agenda_commands.specs.Goal.{Makes, checked_goal, checked_jobs, checked_sizes, sized_goal};
+ghost use Rattle.agenda_commands.specs.Goal.{AnswersWithFiles, Makes, checked_goal, checked_jobs, checked_sizes, finds_start, sized_goal};
 ghost use Rattle.agenda_commands.specs.Remark.{IsOfGaps, remark_of, unremarked};
 ghost use Rattle.agenda_commands.specs.declared.goal.Goal.TheVariants.{Quiet};
 ghost use Rattle.agenda_cover.specs.Cover.{AreInOrder};
@@ -10,25 +10,16 @@ ghost use Rattle.agenda_cover.specs.Remark.{remark};
 
 use crate::agenda_of::make_agenda;
 use crate::goal::{Goal, Made, Planning, counted, make};
-use crate::prepare::{Form, Prepared, PreparedAnswer};
+use crate::prepare::{Form, Prepared, PreparedAnswer, RemarkedAnswer};
 use crate::table::{make_table, quiet_table};
 use agenda_cover::remark_on;
 use agenda_faults::RunFault;
 use plan_collect::Agenda;
 use plan_rules::{Jobs, Text};
-use plan_write::JobFile;
+use plan_write::{Format, JobFile};
 use std::alloc::{AllocError, Global};
 use std::sync::Wait;
 use std::thread::Threads;
-
-/// An answer before it is written, and what is said about it.
-#[derive(Drop)]
-pub struct RemarkedAnswer {
-    /// The answer.
-    pub answer: PreparedAnswer,
-    /// A line for people, if there is something to say.
-    pub remark: Option<Text>,
-}
 
 /// Prepares the answer that `goal` requests of these jobs in a form, with what is said about it: where gaps are
 /// requested and none is long enough, the length of the longest gap and the jobs that cover most of the span. If the
@@ -52,6 +43,7 @@ pub fn prepare_remarked<R: Threads + Wait + Sync>(
     ensures answer { Makes (AnswersForm (option_map (λ files. files.now) files.entry) form goal.now (checked_jobs goal.now (Ok jobs)))
         (λ made. made.answer) result }
     ensures remark { IfOk result (λ made. made.remark ≡ remark_of goal.now jobs) }
+    ensures finds { IfOk result (λ made. made.finds_start ≡ finds_start goal.now jobs) }
 
     // These errors are found before any memory is requested.
     ensures at_once { IfErr (checked_goal goal.now) (λ fault. result ≡ Err fault) }
@@ -72,16 +64,17 @@ fn make_remarked<R: Threads + Wait + Sync>(
 ) -> Result<RemarkedAnswer, RunFault>
     ensures answer { Makes (AnswersForm (option_map (λ files. files.now) files.entry) form goal.now (Ok jobs)) (λ made. made.answer) result }
     ensures remark { IfOk result (λ made. made.remark ≡ remark_of goal.now jobs) }
+    ensures finds { IfOk result (λ made. made.finds_start ≡ finds_start goal.now jobs) }
     ensures at_once { IfErr (sized_goal goal.now) (λ fault. result ≡ Err fault) }
 {
     match goal {
         Goal::Quiet { planning, least } => make_quiet(rt, alloc, jobs, planning, *least, form),
-        Goal::Plan(_) => unremarked(make_in_form(rt, alloc, jobs, goal, form, files)),
+        Goal::Plan { .. } => unremarked(make_in_form(rt, alloc, jobs, goal, form, files)),
         Goal::Upcoming { .. } => unremarked(make_in_form(rt, alloc, jobs, goal, form, files)),
     }
 }
 
-// Makes what `goal` requests of jobs, in a form.
+// Makes what `goal` requests of jobs, in a form, and says whether it is a first entry.
 fn make_in_form<R: Threads + Wait + Sync>(
     rt: &R,
     alloc: Global,
@@ -89,30 +82,57 @@ fn make_in_form<R: Threads + Wait + Sync>(
     goal: &Goal,
     form: Form,
     files: Option<&[JobFile]>,
-) -> Result<PreparedAnswer, RunFault>
-    ensures answer { Makes (AnswersForm (option_map (λ files. files.now) files.entry) form goal.now (Ok jobs)) (λ text. text) result }
+) -> Result<(PreparedAnswer, bool), RunFault>
+    ensures answer { Makes (AnswersForm (option_map (λ files. files.now) files.entry) form goal.now (Ok jobs)) (λ made. made.0) result }
+    ensures finds { IfOk result (λ made. made.1 ≡ finds_start goal.now jobs) }
     ensures at_once { IfErr (sized_goal goal.now) (λ fault. result ≡ Err fault) }
 {
     match form {
-        Form::Lines(format) => {
-            let made = make(rt, alloc, jobs, goal, &format, files)?;
-            Ok(PreparedAnswer::new(Prepared::Lines(made, format)))
+        Form::Lines(format) => make_lines(rt, alloc, jobs, goal, format, files),
+        Form::Table(form) if goal.has_table() => {
+            let made = make_table(rt, alloc, jobs, goal, &form)?;
+            Ok((PreparedAnswer::new(Prepared::Table(made, form)), false))
         }
         Form::Table(form) => {
-            let made = make_table(rt, alloc, jobs, goal, &form)?;
-            Ok(PreparedAnswer::new(Prepared::Table(made, form)))
+            let format = Format {
+                json: false,
+                local: Some(form.zone),
+            };
+            make_lines(rt, alloc, jobs, goal, format, files)
         }
     }
 }
 
-// Returns the same answer, about which nothing is said.
-fn unremarked(answer: Result<PreparedAnswer, RunFault>) -> Result<RemarkedAnswer, RunFault>
+// Makes what `goal` requests of jobs, as lines, and says whether it is a first entry.
+fn make_lines<R: Threads + Wait + Sync>(
+    rt: &R,
+    alloc: Global,
+    jobs: Jobs,
+    goal: &Goal,
+    format: Format,
+    files: Option<&[JobFile]>,
+) -> Result<(PreparedAnswer, bool), RunFault>
+    ensures made { Makes (AnswersWithFiles (option_map (λ files. files.now) files.entry) format goal.now (Ok jobs)) (λ made. made.0) result }
+    ensures finds { IfOk result (λ made. made.1 ≡ finds_start goal.now jobs) }
+    ensures at_once { IfErr (sized_goal goal.now) (λ fault. result ≡ Err fault) }
+{
+    let made = make(rt, alloc, jobs, goal, &format, files)?;
+    let finds_start = made.finds_start();
+    Ok((
+        PreparedAnswer::new(Prepared::Lines(made, format)),
+        finds_start,
+    ))
+}
+
+// Returns the same answer, about which nothing else is said.
+fn unremarked(answer: Result<(PreparedAnswer, bool), RunFault>) -> Result<RemarkedAnswer, RunFault>
     ensures { result ≡ unremarked answer }
 {
     match answer {
-        Ok(answer) => Ok(RemarkedAnswer {
+        Ok((answer, finds_start)) => Ok(RemarkedAnswer {
             answer,
             remark: None,
+            finds_start,
         }),
         Err(fault) => Err(fault),
     }
@@ -129,6 +149,7 @@ fn make_quiet<R: Threads + Wait + Sync>(
 ) -> Result<RemarkedAnswer, RunFault>
     ensures answer { Makes (AnswersForm None form (Quiet planning.now least) (Ok jobs)) (λ made. made.answer) result }
     ensures remark { IfOk result (λ made. made.remark ≡ remark_of (Quiet planning.now least) jobs) }
+    ensures finds { IfOk result (λ made. made.finds_start ≡ false) }
     ensures at_once { IfErr (checked_sizes planning.now) (λ fault. result ≡ Err fault) }
 {
     let jobs = counted(jobs, planning.delays);
@@ -148,10 +169,15 @@ fn remarked(
     requires { AreInOrder agenda.entries }
     ensures answer { IfOk result (λ made. IsOfGaps form least agenda jobs made.answer) }
     ensures remark { IfOk result (λ made. made.remark ≡ remark least agenda jobs) }
+    ensures finds { IfOk result (λ made. made.finds_start ≡ false) }
 {
     let remark = remark_on(alloc, &agenda, &jobs, u64::from(least))?;
     let answer = gaps_in_form(alloc, agenda, jobs, least, form)?;
-    Ok(RemarkedAnswer { answer, remark })
+    Ok(RemarkedAnswer {
+        answer,
+        remark,
+        finds_start: false,
+    })
 }
 
 // Returns the gaps of an agenda of jobs, in a form.

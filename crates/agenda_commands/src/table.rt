@@ -3,18 +3,20 @@
 ghost use Rattle.std.specs.Prelude.{◌≡◌, Err, IfErr, IfOk, IsTrue, Ok, OnOk};
 ghost use Rattle.agenda_table.specs.Dates.{AreInYears};
 ghost use Rattle.agenda_commands.specs.Goal.{Makes, checked_sizes, sized_goal};
-ghost use Rattle.agenda_commands.specs.Table.{AnswersTable, IsNextsTable, IsPlanTable, IsQuietTable, IsStartsTable, look_of, text_of_table};
+ghost use Rattle.agenda_commands.specs.Table.{AnswersTable, IsDowntimeTable, IsNextsTable, IsPlanTable, IsQuietTable, IsViewTable, IsStartsTable, look_of, text_of_table};
 ghost use Rattle.agenda_commands.specs.declared.goal.Goal.TheVariants.{Plan, Quiet, Upcoming as Nexts};
 ghost use Rattle.plan_streams.specs.Stream.{Puts};
 
 use crate::agenda_of::make_agenda;
 use crate::goal::{Goal, Planning, counted};
+use agenda_downtime::{MissedRows, dates_of_missed, missed_text, write_downtime_table};
 use agenda_faults::RunFault;
 use agenda_table::{
     Frame, GapRows, Gaps, JobCells, JobRows, Look, StartRows, after_text, dates_of_gaps,
     dates_of_jobs, dates_of_starts, span_text, write_gap_table, write_job_table, write_start_table,
 };
-use plan_collect::Agenda;
+use plan_collect::{Agenda, PlanView};
+use plan_downtime::missed_starts;
 use plan_rules::{Jobs, NamedZone, Text};
 use plan_sets::END_SECOND;
 use plan_streams::{Stream, WriteFault};
@@ -39,6 +41,8 @@ pub struct TableForm {
 pub(crate) enum TableRows {
     // Those of an agenda, and whether they have the latest starts.
     Plan(Agenda, JobCells, bool),
+    // Those of what jobs miss while the machine is down.
+    Downtime(MissedRows),
     // Those of the next starts of jobs, and whether they have the latest starts.
     Upcoming(Upcoming, JobCells, bool),
     // Those of gaps.
@@ -70,7 +74,7 @@ pub(crate) fn make_table<R: Threads + Wait + Sync>(
     ensures at_once { IfErr (sized_goal goal.now) (λ fault. result ≡ Err fault) }
 {
     match goal {
-        Goal::Plan(planning) => make_plan(rt, alloc, jobs, planning, form),
+        Goal::Plan { planning, view } => make_plan(rt, alloc, jobs, planning, *view, form),
         Goal::Upcoming { after, delays } => {
             let table = upcoming_table(alloc, &jobs, *after, *delays, form)?;
             Ok(table)
@@ -79,21 +83,41 @@ pub(crate) fn make_table<R: Threads + Wait + Sync>(
     }
 }
 
-// Makes the table of the agenda of jobs.
+// Makes the table of a view of the agenda of jobs.
 fn make_plan<R: Threads + Wait + Sync>(
     rt: &R,
     alloc: Global,
     jobs: Jobs,
     planning: &Planning,
+    view: PlanView,
     form: &TableForm,
 ) -> Result<MadeTable, RunFault>
-    ensures made { Makes (AnswersTable form.now (Plan planning.now) (Ok jobs)) (text_of_table form.now) result }
+    ensures made { Makes (AnswersTable form.now (Plan planning.now view) (Ok jobs)) (text_of_table form.now) result }
     ensures at_once { IfErr (checked_sizes planning.now) (λ fault. result ≡ Err fault) }
 {
     let jobs = counted(jobs, planning.delays);
     let agenda = make_agenda(rt, alloc, &jobs, planning)?;
-    let table = plan_table(alloc, agenda, &jobs, planning.delays, form)?;
+    let table = view_table(alloc, view, agenda, &jobs, planning.delays, form)?;
     Ok(table)
+}
+
+// Returns the table of a view of an agenda of jobs. A view without a table of its own has that of all starts.
+fn view_table(
+    alloc: Global,
+    view: PlanView,
+    agenda: Agenda,
+    jobs: &Jobs,
+    delays: bool,
+    form: &TableForm,
+) -> Result<MadeTable, AllocError>
+    ensures { IfOk result (λ made. IsViewTable view form.now delays agenda jobs.now (text_of_table form.now made)) }
+{
+    match view {
+        PlanView::Downtime => downtime_table(alloc, &agenda, jobs, form),
+        PlanView::Starts | PlanView::Week | PlanView::First => {
+            plan_table(alloc, agenda, jobs, delays, form)
+        }
+    }
 }
 
 // Makes the table of the gaps of the agenda of jobs.
@@ -141,6 +165,29 @@ fn plan_table(
         rows: TableRows::Plan(agenda, cells, delays),
         dates,
         last: Text::new(last),
+    })
+}
+
+// Returns the table of what jobs miss while the machine is down for the span of their agenda.
+fn downtime_table(
+    alloc: Global,
+    agenda: &Agenda,
+    jobs: &Jobs,
+    form: &TableForm,
+) -> Result<MadeTable, AllocError>
+    ensures { IfOk result (λ made. IsDowntimeTable form.now agenda.now jobs.now (text_of_table form.now made)) }
+{
+    let (clock, zone) = (&form.zone.clock, form.zone.name.as_str());
+    let (since, upto) = (agenda.since(), agenda.upto());
+    let missed = missed_starts(alloc, agenda, jobs)?;
+    let rows = MissedRows::new(alloc, &missed, jobs)?;
+    let dates = dates_of_missed(alloc, clock, since, upto, &rows)?;
+    let look = Look::new(clock, &dates, form.origin);
+    let last = missed_text(alloc, &look, &rows, since, upto, zone)?;
+    Ok(MadeTable {
+        rows: TableRows::Downtime(rows),
+        dates,
+        last,
     })
 }
 
@@ -240,6 +287,9 @@ impl MadeTable {
                     delays: *delays,
                 };
                 write_job_table(&table, last, form.frame, out)
+            }
+            TableRows::Downtime(rows) => {
+                write_downtime_table(rows, &look, last, form.frame, out)
             }
             TableRows::Upcoming(upcoming, jobs, delays) => {
                 let table = JobRows {

@@ -138,6 +138,33 @@ quiet = with_sizes
     (with_each (with_jobs (with_span (new_app (codes "quiet")))) (number_option (codes "least") (codes "1800") ∷ []))
     (codes "1000000")
 
+-- a command with what `downtime` and `week` have in common added: the span, the zones, `[--keep-going] [--json]`, the sources and the
+-- sizes (agenda)
+unfoldable pub with_window : App → App
+with_window app = with_sizes
+    (with_sources (with_each (with_zones (with_span app)) (flag_option (codes "keep-going") ∷ flag_option (codes "json") ∷ [])))
+    (codes "1000000")
+
+-- `downtime` with the span, the sources and the sizes (agenda)
+unfoldable pub downtime : App
+downtime = with_window (new_app (codes "downtime"))
+
+-- `week` with the same (agenda)
+unfoldable pub week : App
+week = with_window (new_app (codes "week"))
+
+-- the options of `clear` beside the span and the zones (agenda)
+abbrev pub clear_rules : List Rule
+clear_rules = flag_option (codes "keep-going") ∷ flag_option (codes "nominal") ∷ flag_option (codes "local") ∷ []
+
+-- the sizes of a search without a limit: `[--planners N] [--room N]` (agenda)
+abbrev pub search_rules : List Rule
+search_rules = number_option (codes "planners") (codes "2") ∷ number_option (codes "room") (codes "16") ∷ []
+
+-- `clear` with the span, the zones, `[--keep-going] [--nominal] [--local]`, the sources, and the sizes without a limit (agenda)
+unfoldable pub clear : App
+clear = with_each (with_sources (with_each (with_zones (with_span (new_app (codes "clear")))) clear_rules)) search_rules
+
 -- which warnings `check` makes errors, and which it leaves out: `[--deny CODE ..] [--allow CODE ..]` (agenda)
 abbrev pub policy_rules : List Rule
 policy_rules = repeated_option (codes "deny") ∷ repeated_option (codes "allow") ∷ []
@@ -206,11 +233,15 @@ machine_upcoming = with_each (with_machine (new_app (codes "upcoming")))
     (preset_option (codes "after") (codes "now") ∷ machine_zone_rules ++ except_option ∷ flag_option (codes "delays")
     ∷ flag_option (codes "strict") ∷ machine_form_rules)
 
--- a command with what names a machine and with the span of a plan added: `[--since TIME] [--until TIME]`, from now on for a day if
+-- a command with what names a machine and with the span of a plan added: `[--since TIME] [--until TIME]`, which are these times if
 -- they aren't given; `--upto` is another name of `--until` (agenda)
+unfoldable pub with_machine_times : (since until : List ℕ) → App → App
+with_machine_times since until app = with_each (with_machine app)
+    (preset_option (codes "since") since ∷ with_alias (preset_option (codes "until") until) (codes "upto") ∷ [])
+
+-- the same, from now on for a day if they aren't given (agenda)
 unfoldable pub with_machine_span : App → App
-with_machine_span app = with_each (with_machine app)
-    (preset_option (codes "since") (codes "now") ∷ with_alias (preset_option (codes "until") (codes "+24h")) (codes "upto") ∷ [])
+with_machine_span app = with_machine_times (codes "now") (codes "+24h") app
 
 -- `machine plan` with the machine, the span, the zone, `[--except JOB ..]`, `[--delays]`, `[--strict]`, the form and the sizes (agenda)
 unfoldable pub machine_plan : App
@@ -224,6 +255,23 @@ unfoldable pub machine_quiet : App
 machine_quiet = with_each (with_machine_span (new_app (codes "quiet")))
     (preset_option (codes "least") (codes "30min") ∷ machine_zone_rules ++ except_option ∷ flag_option (codes "nominal")
     ∷ flag_option (codes "strict") ∷ machine_form_rules ++ machine_size_rules)
+
+-- `machine downtime` with the machine, the span, the zone, `[--except JOB ..]`, `[--strict]`, the form and the sizes (agenda)
+unfoldable pub machine_downtime : App
+machine_downtime = with_each (with_machine_span (new_app (codes "downtime")))
+    (machine_zone_rules ++ except_option ∷ flag_option (codes "strict") ∷ machine_form_rules ++ machine_size_rules)
+
+-- `machine clear` with the machine, the span, the zone, `[--except JOB ..]`, `[--nominal]`, `[--strict]`, and the sizes without a limit
+-- (agenda)
+unfoldable pub machine_clear : App
+machine_clear = with_each (with_machine_span (new_app (codes "clear")))
+    (machine_zone_rules ++ except_option ∷ flag_option (codes "nominal") ∷ flag_option (codes "strict") ∷ search_rules)
+
+-- `machine week` with the machine, the span, which is a week from the start of today if it isn't given, the zone, `[--except JOB ..]`,
+-- `[--strict]`, `[--json]` and the sizes (agenda)
+unfoldable pub machine_week : App
+machine_week = with_each (with_machine_times (codes "today") (codes "+7d") (new_app (codes "week")))
+    (machine_zone_rules ++ except_option ∷ flag_option (codes "strict") ∷ flag_option (codes "json") ∷ machine_size_rules)
 
 -- `machine next RULE` with `[--after TIME] [--count N]`, the zone and the form (agenda)
 unfoldable pub machine_next : App
@@ -243,6 +291,9 @@ app_for each.Next = next
 app_for each.Plan = plan
 app_for each.Upcoming = upcoming
 app_for each.Quiet = quiet
+app_for each.Downtime = downtime
+app_for each.Clear = clear
+app_for each.Week = week
 app_for each.Check = check
 app_for each.Describe = describe
 app_for each.Machine = machine_listed
@@ -251,6 +302,9 @@ app_for each.Explain = explain
 app_for each.MachineUpcoming = machine_upcoming
 app_for each.MachinePlan = machine_plan
 app_for each.MachineQuiet = machine_quiet
+app_for each.MachineDowntime = machine_downtime
+app_for each.MachineClear = machine_clear
+app_for each.MachineWeek = machine_week
 app_for each.MachineCheck = machine_check
 app_for each.MachineSources = machine_sources
 app_for each.MachineNext = machine_next
@@ -259,12 +313,13 @@ app_for each.MachineDescribe = machine_describe
 -- the subcommands of `agenda`, in the order in which help lists them (agenda)
 abbrev pub subcommands : List Subcommand
 subcommands =
-    each.Next ∷ each.Plan ∷ each.Upcoming ∷ each.Quiet ∷ each.Check ∷ each.Describe ∷ each.Machine ∷ each.Steps ∷ each.Explain ∷ []
+    each.Next ∷ each.Plan ∷ each.Upcoming ∷ each.Quiet ∷ each.Downtime ∷ each.Clear ∷ each.Week ∷ each.Check ∷ each.Describe
+    ∷ each.Machine ∷ each.Steps ∷ each.Explain ∷ []
 
 -- the questions about a machine, in the order in which help lists them (agenda)
 abbrev pub questions : List Subcommand
-questions = each.MachineUpcoming ∷ each.MachinePlan ∷ each.MachineQuiet ∷ each.MachineCheck ∷ each.MachineSources ∷ each.MachineNext
-    ∷ each.MachineDescribe ∷ []
+questions = each.MachineUpcoming ∷ each.MachinePlan ∷ each.MachineQuiet ∷ each.MachineDowntime ∷ each.MachineClear ∷ each.MachineWeek
+    ∷ each.MachineCheck ∷ each.MachineSources ∷ each.MachineNext ∷ each.MachineDescribe ∷ []
 
 -- a command with these subcommands added, one after the other (agenda)
 abbrev pub with_subcommands : App → List Subcommand → App
@@ -280,8 +335,7 @@ requiring_subcommand app = on_top (λ s. record s { subcommand_required = true; 
 abbrev pub agenda_alone : App
 agenda_alone = requiring_subcommand (on_top (λ s. record s { has_version = true }) (new_app (codes "agenda")))
 
--- `agenda next ..`, `agenda plan ..`, `agenda upcoming ..`, `agenda quiet ..`, `agenda check ..`, `agenda describe ..`,
--- `agenda machine`, `agenda steps ..` or `agenda explain ..` (agenda)
+-- `agenda next ..` and the other commands, or `agenda machine` (agenda)
 unfoldable pub agenda : App
 agenda = with_subcommands agenda_alone subcommands
 
@@ -289,7 +343,6 @@ agenda = with_subcommands agenda_alone subcommands
 abbrev pub machine_alone : App
 machine_alone = requiring_subcommand (new_app (codes "machine"))
 
--- `machine upcoming ..`, `machine plan ..`, `machine quiet ..`, `machine check ..`, `machine sources ..`, `machine next ..` or
--- `machine describe ..` (agenda)
+-- `machine upcoming ..` and the other questions (agenda)
 unfoldable pub machine : App
 machine = with_subcommands machine_alone questions

@@ -10,6 +10,7 @@ ghost use Rattle.agenda_options.specs.Command.{with_jobs, with_sources, with_spa
 mod help;
 mod machine;
 mod subcommands;
+mod windows;
 
 use clap::{Arg, ArgAction, Command, value_parser};
 pub use machine::machine_command;
@@ -106,6 +107,9 @@ pub fn agenda_command<'a>(alloc: Global) -> Result<Command<'a>, AllocError>
         Subcommand::Plan,
         Subcommand::Upcoming,
         Subcommand::Quiet,
+        Subcommand::Downtime,
+        Subcommand::Clear,
+        Subcommand::Week,
         Subcommand::Check,
         Subcommand::Describe,
         Subcommand::Machine,

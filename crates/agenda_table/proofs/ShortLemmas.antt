@@ -1,4 +1,4 @@
--- No row has more than 5 cells.
+-- No row has more than 6 cells.
 use Rattle.std.proofs.Common.{ℕ, Bool, true, false, List, [], ◌∷◌, ◌++◌, length, refl, ◌∙◌}
 use Rattle.std.specs.Prelude.{◌-◌, codes, if◌then◌else◌, nat_le, nat_lt, slice_get, Option, None, Some}
 use Rattle.std.specs.List.{flat_map, list_all}
@@ -21,9 +21,9 @@ gap_cells_short start end (Some distance) size = refl
 
 both_short : (xs ys : List (List (List ℕ))) → AreShort xs → AreShort ys → AreShort (xs ++ ys)
 both_short xs ys one two =
-    list_all-append (λ (row : List (List ℕ)). nat_le (length row) 5) xs ys
-    ∙ and_from (list_all (λ (row : List (List ℕ)). nat_le (length row) 5) xs)
-    (list_all (λ (row : List (List ℕ)). nat_le (length row) 5) ys) one two
+    list_all-append (λ (row : List (List ℕ)). nat_le (length row) 6) xs ys
+    ∙ and_from (list_all (λ (row : List (List ℕ)). nat_le (length row) 6) xs)
+    (list_all (λ (row : List (List ℕ)). nat_le (length row) 6) ys) one two
 
 job_short : (look : LookParts) (delays : Bool) (at : Option ℕ) (job : Option JobTexts) → AreShort (rows_of_job look delays at job)
 job_short look delays at None = refl

@@ -19,15 +19,16 @@ pub wider_at :
 wider_at rows row place before after was is =
     is ∙ ap (λ (n : ℕ). max n (width (get_or row place []))) was ∙ sym (widest_more rows row place)
 
--- a fact on each of five places
-pub five_places :
-    (P : ℕ → Type 0) → P 0 → P 1 → P 2 → P 3 → P 4 → (place : ℕ) → place < 5 → P place
-five_places P a b c d e zero few = a
-five_places P a b c d e (suc zero) few = b
-five_places P a b c d e (suc (suc zero)) few = c
-five_places P a b c d e (suc (suc (suc zero))) few = d
-five_places P a b c d e (suc (suc (suc (suc zero)))) few = e
-five_places P a b c d e (suc (suc (suc (suc (suc n))))) few = absurd (omega arith)
+-- a fact on each of six places
+pub six_places :
+    (P : ℕ → Type 0) → P 0 → P 1 → P 2 → P 3 → P 4 → P 5 → (place : ℕ) → place < 6 → P place
+six_places P a b c d e f zero few = a
+six_places P a b c d e f (suc zero) few = b
+six_places P a b c d e f (suc (suc zero)) few = c
+six_places P a b c d e f (suc (suc (suc zero))) few = d
+six_places P a b c d e f (suc (suc (suc (suc zero)))) few = e
+six_places P a b c d e f (suc (suc (suc (suc (suc zero))))) few = f
+six_places P a b c d e f (suc (suc (suc (suc (suc (suc n)))))) few = absurd (omega arith)
 
 -- no text takes no columns
 pub width_none : (text : List ℕ) → text ≡ [] → width text ≡ 0

@@ -48,7 +48,7 @@ line_text columns terminal widths row = shown_bytes terminal (fitted columns wid
 
 -- no row has more cells than there are columns
 abbrev pub AreShort : List (List (List ℕ)) → Type 0
-AreShort rows = IsTrue (list_all (λ row. nat_le (length row) 5) rows)
+AreShort rows = IsTrue (list_all (λ row. nat_le (length row) 6) rows)
 
 -- a table as bytes: its rows, the head first, and a last line, which isn't cut
 abbrev pub table_text : (columns : Option ℕ) → (terminal : Bool) → List (List (List ℕ)) → (last : List ℕ) → List ℕ

@@ -4,13 +4,13 @@ use Rattle.std.proofs.Common.{append-nil, append_assoc, subst, sym}
 use Rattle.agenda_table.specs.Layout.{widest}
 use Rattle.agenda_table.specs.declared.widths.Widths.{Widths}
 
--- the width that is kept for the column at a place, of which there are 5
+-- the width that is kept for the column at a place, of which there are 6
 abbrev pub width_at : Widths → ℕ → ℕ
-width_at widths place = if nat_lt place 5 then get_or widths.most place 0 else 0
+width_at widths place = if nat_lt place 6 then get_or widths.most place 0 else 0
 
 -- these are the widths of the columns of these rows, as far as a row has cells
 abbrev pub AreWidest : List (List (List ℕ)) → Widths → Type 0
-AreWidest rows widths = (place : ℕ) → place < 5 → width_at widths place ≡ widest rows place
+AreWidest rows widths = (place : ℕ) → place < 6 → width_at widths place ≡ widest rows place
 
 -- the widths are those of more rows
 abbrev pub WidensBy : (old new : Widths) → List (List (List ℕ)) → Type 0

@@ -17,7 +17,7 @@ pub trait RowSink {
     /// Whether it took these rows.
     ghost takes: { Self → Self → List (List (List ℕ)) → Type 0 };
 
-    /// Takes a row of at most 5 cells.
+    /// Takes a row of at most 6 cells.
     fn row(&mut self, row: &[Cell<'_>])
         ensures { takes self.old self.new (row.now ∷ []) };
 
@@ -75,7 +75,7 @@ impl<'a, S: Stream> RowSink for Lines<'a, S> {
     ghost takes_both = { takes_rows_both S.holds S.takes_all };
 }
 
-/// Writes a table: its rows, and a last line, which isn't cut. All rows have at most 5 cells. This requests no memory
+/// Writes a table: its rows, and a last line, which isn't cut. All rows have at most 6 cells. This requests no memory
 /// but what the rows request. The stream is flushed once, at the end.
 ///
 /// # Errors

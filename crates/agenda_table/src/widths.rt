@@ -7,7 +7,7 @@ ghost use Rattle.agenda_table.specs.Widths.{AreWidest, WidensBy, width_at};
 use crate::cell::Cell;
 
 /// The maximum number of cells in a row.
-pub(crate) const MOST_CELLS: usize = 5;
+pub(crate) const MOST_CELLS: usize = 6;
 
 /// The widths of the columns: those of the widest cells so far.
 #[derive(Clone, Copy, Drop)]
@@ -29,13 +29,14 @@ impl Widths {
     pub(crate) fn widen(&mut self, row: &[Cell<'_>])
         ensures { WidensBy self.old self.new (row.now ∷ []) }
     {
-        let [first, second, third, fourth, fifth] = self.most;
+        let [first, second, third, fourth, fifth, sixth] = self.most;
         self.most = [
             wider(first, row, 0),
             wider(second, row, 1),
             wider(third, row, 2),
             wider(fourth, row, 3),
             wider(fifth, row, 4),
+            wider(sixth, row, 5),
         ];
     }
 

@@ -7,6 +7,8 @@ use Rattle.std.specs.Str.{bytes_eq}
 use Rattle.clap.specs.Lexer.{long_of, short_of}
 use Rattle.clap.proofs.OnLiterals.{clap_on_literals}
 use Rattle.plan_texts.specs.Text.{cut_at, words}
+use Rattle.plan_collect.specs.declared.PlanView.{PlanView}
+use Rattle.plan_collect.specs.declared.PlanView.TheVariants as view
 use Rattle.plan_collect.specs.declared.Sizes.{Sizes}
 use Rattle.agenda_arguments.specs.declared.ask.Ask.{Ask}
 use Rattle.agenda_arguments.specs.declared.ask.Ask.TheVariants.{Next, Plan, Upcoming, Quiet, Check, Steps, Machine, MachineNext}
@@ -74,7 +76,8 @@ any_moment_and_rule : (name after cron : List ℕ) → IsPlainWord after → IsP
     ≡ (Ok (asks_next after in_utc 1 (Cron cron) as_text), None)
 unfolding asked_by clap_on_literals agenda_on_literals
 any_moment_and_rule name after cron a c =
-    rw (a.trailing, a.long, a.short, c.trailing, c.long, c.short) (refl {a = (Ok (asks_next after in_utc 1 (Cron cron) as_text), None)})
+    rw (a.trailing, a.long, a.short)
+    (rw (c.trailing, c.long, c.short) (refl {a = (Ok (asks_next after in_utc 1 (Cron cron) as_text), None)}))
 
 -- the same after `t`
 abbrev asks_after_t : ZonesRequest → (count : ℕ) → Asked → FormatRequest → Result Ask ArgumentsFault
@@ -119,7 +122,11 @@ planned jobs sizes = record { since = codes "s"; upto = codes "u"; jobs = jobs; 
 
 -- a plan with all numbers by default
 abbrev plans : JobsRequest → Result Ask ArgumentsFault
-plans jobs = Ok (Plan (planned jobs (sized 2 16 10000)))
+plans jobs = Ok (Plan (planned jobs (sized 2 16 10000)) view.Starts)
+
+-- a view of a plan with all numbers by default and a limit of 1,000,000
+abbrev views : PlanView → JobsRequest → Result Ask ArgumentsFault
+views shown jobs = Ok (Plan (planned jobs (sized 2 16 1000000)) shown)
 
 -- quiet times with all numbers by default: gaps of half an hour, and a limit of 1,000,000
 abbrev quiets : JobsRequest → Result Ask ArgumentsFault
@@ -130,12 +137,12 @@ plan_rows : RowsHold asked_in
     ((codes "agenda plan --since s --upto u", plans (jobs_from []))
     ∷ (
       codes "agenda plan --since s --upto u --crontab c --system-crontab d --planners 3 --room 4 --limit 5",
-      Ok (Plan (planned (jobs_from (path_of Crontab (codes "c") ∷ path_of System (codes "d") ∷ [])) (sized 3 4 5))),
+      Ok (Plan (planned (jobs_from (path_of Crontab (codes "c") ∷ path_of System (codes "d") ∷ [])) (sized 3 4 5)) view.Starts),
     )
     -- timers, also between options, in the order of the arguments
     ∷ (
       codes "agenda plan --since s --upto u b --room=1 a -- -c",
-      Ok (Plan (planned (jobs_from (timer (codes "b") ∷ timer (codes "a") ∷ timer (codes "-c") ∷ [])) (sized 2 1 10000))),
+      Ok (Plan (planned (jobs_from (timer (codes "b") ∷ timer (codes "a") ∷ timer (codes "-c") ∷ [])) (sized 2 1 10000)) view.Starts),
     )
     -- the argument after a flag is a timer
     ∷ (codes "agenda plan --since s --upto u --keep-going a", plans (record jobs_of_a { keep_going = true }))
@@ -161,6 +168,19 @@ plan_rows : RowsHold asked_in
       plans (jobs_from (path_of CronD (codes "b") ∷ path_of CronD (codes "a") ∷ path_of Spool (codes "u")
           ∷ path_of Spool (codes "-") ∷ [])),
     )
+    -- delays count in `downtime`, and in `clear`, unless `--nominal` is given; `week` shows the clock of the zone, if one is given
+    ∷ (codes "agenda downtime --since s --upto u a", views view.Downtime (record jobs_of_a { delays = true }))
+    ∷ (codes "agenda week --since s --until u a", views view.Week jobs_of_a)
+    ∷ (
+      codes "agenda week --since s --until u --zone z a",
+      views view.Week (record jobs_of_a { zones = zones_from (Some (codes "z")) false; format = format_from false true }),
+    )
+    ∷ (
+      codes "agenda clear --since s --upto u a",
+      Ok (Plan (planned (record jobs_of_a { delays = true }) (sized 2 16 1)) view.First),
+    )
+    ∷ (codes "agenda clear --since s --upto u --nominal a", Ok (Plan (planned jobs_of_a (sized 2 16 1)) view.First))
+    ∷ (codes "agenda clear --since s --upto u --limit 5 a", Err is_usage)
     ∷ [])
 unfolding words asked_by clap_on_literals agenda_on_literals
 plan_rows = refl
@@ -304,13 +324,13 @@ machine_jobs_rows : RowsHold asked_in
     )
     ∷ (
       codes "agenda machine plan --except a",
-      asks_here (record (asks_jobs (machine_goal.Plan from_now machine_sizes) false) { except = codes "a" ∷ [] }),
+      asks_here (record (asks_jobs (machine_goal.Plan from_now machine_sizes view.Starts) false) { except = codes "a" ∷ [] }),
     )
-    ∷ (codes "agenda machine plan", asks_here (asks_jobs (machine_goal.Plan from_now machine_sizes) false))
+    ∷ (codes "agenda machine plan", asks_here (asks_jobs (machine_goal.Plan from_now machine_sizes view.Starts) false))
     ∷ (
       codes "agenda machine plan --since s --upto u --limit 5 --zone z",
       asks_here (record (asks_jobs
-          (machine_goal.Plan (span_from (codes "s") (codes "u")) (record machine_sizes { limit = 5 })) false) {
+          (machine_goal.Plan (span_from (codes "s") (codes "u")) (record machine_sizes { limit = 5 }) view.Starts) false) {
             zone = Some (codes "z");
           }),
     )
@@ -319,6 +339,20 @@ machine_jobs_rows : RowsHold asked_in
     ∷ (
       codes "agenda machine quiet --nominal --least 2h --upto u",
       asks_here (asks_jobs (machine_goal.Quiet (span_from (codes "now") (codes "u")) machine_sizes (codes "2h")) false),
+    )
+    -- so they do in `downtime` and `clear`; `week` is a week from the start of today
+    ∷ (codes "agenda machine downtime", asks_here (asks_jobs (machine_goal.Plan from_now machine_sizes view.Downtime) true))
+    ∷ (
+      codes "agenda machine clear --nominal",
+      asks_here (record (asks_jobs (machine_goal.Plan from_now (record machine_sizes { limit = 1 }) view.First) false) {
+        table = table_request.Never;
+      }),
+    )
+    ∷ (
+      codes "agenda machine week",
+      asks_here (record (asks_jobs
+          (machine_goal.Plan (span_from (codes "today") (codes "+7d")) machine_sizes view.Week)
+          false) { table = table_request.Never }),
     )
     ∷ [])
 unfolding words asked_by clap_on_literals agenda_on_literals

@@ -160,6 +160,40 @@ Example:
   agenda quiet --since 2024-01-01T00:00:00Z --upto 2024-01-08T00:00:00Z \\
     --least 3600 --crontab jobs backup.timer";
 
+pub(super) const DOWNTIME: &str = "Prints what a machine misses while it is down, and what then";
+
+pub(super) const AFTER_DOWNTIME: &str = "\
+Prints a line for each job with a start in the span, delays included: the time of its first
+start and of its last one, the number of its starts, what happens to them, the job's name
+and what it runs, separated by tabs. 'lost' is missed for good, 'made up' starts once after
+the end of the span (Persistent=), and 'at boot' is a job of @reboot. Lines are sorted by
+the first start, then by job. agenda(1) describes the formats of the files.
+
+Example:
+  agenda downtime --since 2024-06-01T22:00:00Z --until 2024-06-02T04:00:00Z \\
+    --crontab jobs backup.timer";
+
+pub(super) const CLEAR: &str = "Succeeds if no job of crontabs and timers starts in a span";
+
+pub(super) const AFTER_CLEAR: &str = "\
+Prints nothing if no start may fall into the span, and the exit status is 0. Otherwise it
+prints the first one, as plan --delays prints it, and the exit status is 1. What can't be
+read or is invalid is an error, never status 0.
+
+Example:
+  agenda clear --since 2024-06-01T22:00:00Z --until 2024-06-01T23:30:00Z backup.timer";
+
+pub(super) const WEEK: &str = "Shows how many jobs start in each hour of a span";
+
+pub(super) const AFTER_WEEK: &str = "\
+Prints a row for each day and a column for each hour, as the clock of --zone shows them: '.'
+for no start, 1 to 9, and '#' for 10 or more. A row ends with the sum of its day, and the
+last row has the sums of all days. With --json, prints an object for each hour that has a
+start.
+
+Example:
+  agenda week --since 2024-05-27T00:00:00Z --until 2024-06-03T00:00:00Z --crontab jobs";
+
 pub(super) const CHECK: &str = "Prints errors and likely mistakes in crontabs and timers";
 
 pub(super) const AFTER_CHECK: &str = "\
@@ -273,6 +307,40 @@ The exit status is 1 if there is such an error or if a file can't be read, other
 
 Example:
   agenda machine quiet --since tomorrow --least 2h";
+
+pub(super) const MACHINE_DOWNTIME: &str =
+    "Prints what a machine misses while it is down, and what then";
+
+pub(super) const AFTER_MACHINE_DOWNTIME: &str = "\
+Prints what 'agenda downtime' prints, about the files that 'agenda machine sources' lists.
+Times are those of the machine's clocks, with their offset from UTC. Standard error has a
+line for each file that is skipped or isn't planned, and the errors of the files. The exit
+status is 1 if there is such an error or if a file can't be read, otherwise 0.
+
+Example:
+  agenda machine downtime --since 'sat 22:00' --until 'sun 04:00'";
+
+pub(super) const MACHINE_CLEAR: &str = "Succeeds if no job of a machine starts in a span";
+
+pub(super) const AFTER_MACHINE_CLEAR: &str = "\
+Prints nothing if no start of a job may fall into the span, and the exit status is 0.
+Otherwise it prints the first one, and the exit status is 1. It is also 1 if an error is
+skipped, or if a file can't be read.
+
+Example:
+  agenda machine clear --until +90min && reboot";
+
+pub(super) const MACHINE_WEEK: &str = "Shows how many jobs of a machine start in each hour";
+
+pub(super) const AFTER_MACHINE_WEEK: &str = "\
+Prints what 'agenda week' prints, about the files that 'agenda machine sources' lists, in
+the machine's time zone: a week from the start of today, if no span is given. Standard
+error has a line for each file that is skipped or isn't planned, and the errors of the
+files. The exit status is 1 if there is such an error or if a file can't be read, otherwise
+0.
+
+Example:
+  agenda machine week --since 'mon' --until '+7d'";
 
 pub(super) const MACHINE_SOURCES: &str = "Lists a machine's crontabs and timers";
 

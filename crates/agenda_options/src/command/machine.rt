@@ -2,8 +2,8 @@
 ghost use Rattle.std.specs.Prelude.{◌≡◌, IfOk, false};
 ghost use Rattle.clap.specs.Words.{app_of};
 ghost use Rattle.clap.specs.declared.builder.command.Command.TheViews.{out-Command};
-ghost use Rattle.agenda_options.specs.Command.{machine, machine_alone, machine_check, machine_describe, machine_next, machine_plan, machine_quiet, machine_sources};
-ghost use Rattle.agenda_options.specs.Command.{machine_upcoming, with_machine_span};
+ghost use Rattle.agenda_options.specs.Command.{machine, machine_alone, machine_check, machine_clear, machine_describe, machine_downtime, machine_next};
+ghost use Rattle.agenda_options.specs.Command.{machine_plan, machine_quiet, machine_sources, machine_upcoming, machine_week, with_machine_span, with_machine_times};
 
 use super::subcommands::Subcommand;
 use super::{
@@ -58,6 +58,9 @@ pub fn machine_command<'a>(alloc: Global) -> Result<Command<'a>, AllocError>
         Subcommand::MachineUpcoming,
         Subcommand::MachinePlan,
         Subcommand::MachineQuiet,
+        Subcommand::MachineDowntime,
+        Subcommand::MachineClear,
+        Subcommand::MachineWeek,
         Subcommand::MachineCheck,
         Subcommand::MachineSources,
         Subcommand::MachineNext,
@@ -220,6 +223,83 @@ pub(super) fn machine_quiet_command<'a>(alloc: Global) -> Result<Command<'a>, Al
     )
 }
 
+/// Returns the command line of `agenda machine downtime`.
+///
+/// # Errors
+///
+/// An allocation failed.
+#[tactic(auto, unfolding(crate::specs::Command::machine_downtime))]
+pub(super) fn machine_downtime_command<'a>(alloc: Global) -> Result<Command<'a>, AllocError>
+    ensures app { IfOk result (λ command. app_of command ≡ machine_downtime) }
+    ensures local { IfOk result (λ command. (out-Command command).has_globals ≡ false) }
+{
+    let command = new_subcommand(
+        alloc,
+        "downtime",
+        help::MACHINE_DOWNTIME,
+        help::AFTER_MACHINE_DOWNTIME,
+    );
+    let command = with_machine_span(alloc, command)?;
+    with_arguments(
+        alloc,
+        command,
+        &[
+            ZONE, UTC, EXCEPT, STRICT, TABLE, TEXT, JSON, LIMIT, PLANNERS, ROOM,
+        ],
+    )
+}
+
+/// Returns the command line of `agenda machine clear`.
+///
+/// # Errors
+///
+/// An allocation failed.
+#[tactic(auto, unfolding(crate::specs::Command::machine_clear))]
+pub(super) fn machine_clear_command<'a>(alloc: Global) -> Result<Command<'a>, AllocError>
+    ensures app { IfOk result (λ command. app_of command ≡ machine_clear) }
+    ensures local { IfOk result (λ command. (out-Command command).has_globals ≡ false) }
+{
+    let command = new_subcommand(
+        alloc,
+        "clear",
+        help::MACHINE_CLEAR,
+        help::AFTER_MACHINE_CLEAR,
+    );
+    let command = with_machine_span(alloc, command)?;
+    with_arguments(
+        alloc,
+        command,
+        &[
+            ZONE,
+            UTC,
+            EXCEPT,
+            CommandOption::Flag("nominal", help::NOMINAL),
+            STRICT,
+            PLANNERS,
+            ROOM,
+        ],
+    )
+}
+
+/// Returns the command line of `agenda machine week`.
+///
+/// # Errors
+///
+/// An allocation failed.
+#[tactic(auto, unfolding(crate::specs::Command::machine_week))]
+pub(super) fn machine_week_command<'a>(alloc: Global) -> Result<Command<'a>, AllocError>
+    ensures app { IfOk result (λ command. app_of command ≡ machine_week) }
+    ensures local { IfOk result (λ command. (out-Command command).has_globals ≡ false) }
+{
+    let command = new_subcommand(alloc, "week", help::MACHINE_WEEK, help::AFTER_MACHINE_WEEK);
+    let command = with_machine_times(alloc, command, "today", "+7d")?;
+    with_arguments(
+        alloc,
+        command,
+        &[ZONE, UTC, EXCEPT, STRICT, JSON, LIMIT, PLANNERS, ROOM],
+    )
+}
+
 /// Returns the command line of `agenda machine next`.
 ///
 /// # Errors
@@ -271,11 +351,26 @@ pub(super) fn machine_describe_command<'a>(alloc: Global) -> Result<Command<'a>,
     with_argument(command, argument(alloc, "rule", "RULE", help::RULE))
 }
 
-// Adds what names a machine, and the span of a plan of it.
-#[tactic(auto, unfolding(crate::specs::Command::with_machine_span, crate::specs::Command::with_machine))]
+// Adds what names a machine, and the span of a plan of it: from now on for a day, if it isn't given.
+#[tactic(auto, unfolding(crate::specs::Command::with_machine_span))]
 fn with_machine_span<'a>(alloc: Global, command: Command<'a>) -> Result<Command<'a>, AllocError>
     requires local { (out-Command command).has_globals ≡ false }
     ensures app { IfOk result (λ new. app_of new ≡ with_machine_span (app_of command.entry)) }
+    ensures local { IfOk result (λ new. (out-Command new).has_globals ≡ false) }
+{
+    with_machine_times(alloc, command, "now", "+24h")
+}
+
+// Adds what names a machine, and the span of a plan of it: between these times, if it isn't given.
+#[tactic(auto, unfolding(crate::specs::Command::with_machine_times, crate::specs::Command::with_machine))]
+fn with_machine_times<'a>(
+    alloc: Global,
+    command: Command<'a>,
+    since: &'a str,
+    until: &'a str,
+) -> Result<Command<'a>, AllocError>
+    requires local { (out-Command command).has_globals ≡ false }
+    ensures app { IfOk result (λ new. app_of new ≡ with_machine_times since.entry.now until.entry.now (app_of command.entry)) }
     ensures local { IfOk result (λ new. (out-Command new).has_globals ≡ false) }
 {
     let command = with_arguments(
@@ -284,10 +379,10 @@ fn with_machine_span<'a>(alloc: Global, command: Command<'a>) -> Result<Command<
         &[
             ROOT,
             ALL,
-            CommandOption::Preset("since", "TIME", "now", help::MACHINE_SINCE),
+            CommandOption::Preset("since", "TIME", since, help::MACHINE_SINCE),
         ],
     )?;
-    let until = CommandOption::Preset("until", "TIME", "+24h", help::MACHINE_UNTIL).to_clap(alloc);
+    let until = CommandOption::Preset("until", "TIME", until, help::MACHINE_UNTIL).to_clap(alloc);
     let until = with_alias(until, "upto")?;
     with_argument(command, until)
 }

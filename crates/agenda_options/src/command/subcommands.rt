@@ -5,9 +5,11 @@ ghost use Rattle.clap.specs.declared.builder.command.Command.TheViews.{out-Comma
 ghost use Rattle.agenda_options.specs.Command.{app_for};
 
 use super::machine::{
-    machine_check_command, machine_describe_command, machine_next_command, machine_plan_command,
-    machine_quiet_command, machine_sources_command, machine_upcoming_command,
+    machine_check_command, machine_clear_command, machine_describe_command,
+    machine_downtime_command, machine_next_command, machine_plan_command, machine_quiet_command,
+    machine_sources_command, machine_upcoming_command, machine_week_command,
 };
+use super::windows::{clear_command, downtime_command, week_command};
 use super::{
     check_command, describe_command, explain_command, help, new_subcommand, next_command,
     plan_command, quiet_command, steps_command, upcoming_command,
@@ -22,6 +24,9 @@ pub(super) enum Subcommand {
     Plan,
     Upcoming,
     Quiet,
+    Downtime,
+    Clear,
+    Week,
     Check,
     Describe,
     Machine,
@@ -30,6 +35,9 @@ pub(super) enum Subcommand {
     MachineUpcoming,
     MachinePlan,
     MachineQuiet,
+    MachineDowntime,
+    MachineClear,
+    MachineWeek,
     MachineCheck,
     MachineSources,
     MachineNext,
@@ -52,6 +60,9 @@ impl Subcommand {
             Subcommand::Plan => plan_command(alloc),
             Subcommand::Upcoming => upcoming_command(alloc),
             Subcommand::Quiet => quiet_command(alloc),
+            Subcommand::Downtime => downtime_command(alloc),
+            Subcommand::Clear => clear_command(alloc),
+            Subcommand::Week => week_command(alloc),
             Subcommand::Check => check_command(alloc),
             Subcommand::Describe => describe_command(alloc),
             // Arguments that begin with `machine` are read by `machine_command`.
@@ -63,6 +74,9 @@ impl Subcommand {
             Subcommand::MachineUpcoming => machine_upcoming_command(alloc),
             Subcommand::MachinePlan => machine_plan_command(alloc),
             Subcommand::MachineQuiet => machine_quiet_command(alloc),
+            Subcommand::MachineDowntime => machine_downtime_command(alloc),
+            Subcommand::MachineClear => machine_clear_command(alloc),
+            Subcommand::MachineWeek => machine_week_command(alloc),
             Subcommand::MachineCheck => machine_check_command(alloc),
             Subcommand::MachineSources => machine_sources_command(alloc),
             Subcommand::MachineNext => machine_next_command(alloc),

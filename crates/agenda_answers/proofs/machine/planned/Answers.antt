@@ -5,8 +5,9 @@ use Rattle.agenda_faults.specs.declared.faults.RunFault.TheVariants.{NoMemory}
 use Rattle.agenda_commands.specs.Form.{AnswersForm}
 use Rattle.agenda_inputs.specs.Steps.{goes, stops}
 use Rattle.agenda_inputs.proofs.StepLemmas.{failed}
-use Rattle.agenda_answers.proofs.MachineLemmas.{first_error, lent_files, said_parts, settled_parts}
-use Rattle.agenda_answers.proofs.OutcomeLemmas.{settled_failure}
+use Rattle.agenda_commands.specs.Goal.{finds_start}
+use Rattle.agenda_answers.proofs.MachineLemmas.{first_error, lent_files, remark_same, said_parts}
+use Rattle.agenda_answers.proofs.OutcomeLemmas.{found_parts, settled_failure, settled_parts}
 use Rattle.agenda_answers.proofs.machine.planned.Goals as goal
 
 pub returns-in_err-files : goal.returns-in_err-files
@@ -22,12 +23,35 @@ returns-in_err-made g c =
     (settled_failure Answers c.args.goal.now (Ok c.args.kept) made.result _ bad c.in_err-made.ensures))
     c.from_residual-in_err-made.ensures.1
 
+pub returns-in_err-remark : goal.returns-in_err-remark
+returns-in_err-remark g c =
+    let files = lent_files _ _ c.as_deref.ensures.cases in
+    let Answers = AnswersForm (option_map (λ f. f.items) c.in_ok-files.files) c.args.form in
+    let made = c.prepare_remarked-made in
+    goes _ (goes _ c.in_ok-files.ensures (settled_parts Answers c.args.goal.now (Ok c.args.kept) made.result c.in_ok-made.made
+    (rw files at made.ensures.answer) c.in_ok-made.ensures))
+    (failed _ (Run NoMemory) refl c.from_residual-in_err-remark.ensures.1)
+
 pub returns : goal.returns
 returns g c =
     let files = lent_files _ _ c.as_deref.ensures.cases in
     let Answers = AnswersForm (option_map (λ f. f.items) c.in_ok-files.files) c.args.form in
     let made = c.prepare_remarked-made in
     let said = said_parts c.args.goal.now c.args.kept made.result c.in_ok-made.made made.ensures.remark c.in_ok-made.ensures in
+    let found = found_parts (finds_start c.args.goal.now c.args.kept) made.result c.in_ok-made.made made.ensures.finds c.in_ok-made.ensures in
     goes _ (goes _ c.in_ok-files.ensures (settled_parts Answers c.args.goal.now (Ok c.args.kept) made.result c.in_ok-made.made
     (rw files at made.ensures.answer) c.in_ok-made.ensures))
-    (rw (c.new.ensures, c.in_words.ensures, c.parted-answer.ensures, c.status_of.ensures, c.are_warnings.ensures, c.as_slice.ensures.value, said) refl)
+    (goes _ (remark_same c.args.goal.now _ _ _ _ _ _ _ c.in_ok-remark.ensures
+    (rw (← c.parted-answer.ensures) c.is_ok.ensures.value)
+    (rw c.parted-answer.ensures said)
+    (rw (c.status_of-status.ensures, c.are_warnings.ensures, c.as_slice.ensures.value) refl))
+    (rw (
+      c.new.ensures,
+      c.in_words.ensures,
+      c.found_status.ensures,
+      c.parted-answer.ensures,
+      c.status_of-status.ensures,
+      c.are_warnings.ensures,
+      c.as_slice.ensures.value,
+      found,
+    ) refl))

@@ -1,0 +1,22 @@
+use Rattle.std.proofs.Common.{◌≡◌, ◌∙◌, ◌∷◌, ℕ, List, ap}
+use Rattle.agenda_downtime.specs.Last.{missed_text}
+use Rattle.agenda_downtime.specs.Rows.{downtime_rows, missed_texts, missed_times}
+use Rattle.agenda_table.specs.Dates.{is_put_back_on}
+use Rattle.agenda_commands.specs.Table.{look_of, text_of_rows}
+use Rattle.agenda_commands.proofs.table.downtime_table.Goals as goal
+
+pub returns : goal.returns
+returns c =
+    let form = c.args.form.now in
+    let dates : List ℕ = c.in_ok-dates.dates.items in
+    let rows = c.in_ok-rows.ensures ∙ ap (missed_texts c.args.jobs.now) (c.deref.ensures.value ∙ c.in_ok-missed.ensures) in
+    let since = c.since-since.ensures.value in
+    let upto = c.upto-upto.ensures.value in
+    let look : c.new-look.result ≡ look_of form dates = c.new-look.ensures ∙ ap (look_of form) c.deref-2.ensures.value in
+    let last = c.in_ok-last.ensures ∙ (λ k. missed_text (look k) (rows k) (since k) (upto k) (c.as_str-zone.ensures k)) in (
+      dates,
+      λ date.
+          c.in_ok-dates.ensures date
+          ∙ (λ k. is_put_back_on form.zone.clock (since k ∷ upto k ∷ missed_times (rows k)) date),
+      (λ k. text_of_rows form (downtime_rows (look_of form dates) (rows k)) (last k)),
+    )

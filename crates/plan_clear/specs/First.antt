@@ -1,0 +1,42 @@
+-- The first entry of an agenda of windows (agenda).
+use Rattle.std.specs.Prelude.{◌≡◌, ◌↔◌, ◌<◌, ◌≤◌, ◌+◌, ℕ, true, false, nat_le, if◌then◌else◌, List, Option, None, Some, slice_get}
+use Rattle.plan_next.specs.Span.{Bounds}
+use Rattle.plan_next.specs.Starts.{is_start}
+use Rattle.plan_rules.specs.Job.{JobParts}
+use Rattle.plan_collect.specs.Windows.{agenda_of_windows, has_window, timings_of}
+
+-- an entry doesn't come after another: its second isn't later, and at the same second the number of its job isn't higher (agenda)
+abbrev pub IsNotAfter : (entry other : ℕ × ℕ) → Type 0
+IsNotAfter entry other = (entry.0 ≤ other.0) × (entry.0 ≡ other.0 → entry.1 ≤ other.1)
+
+-- no job has a start whose window meets the span: the span is clear
+abbrev pub IsClear : List JobParts → Bounds → Type 0
+IsClear jobs span = (second number : ℕ) → has_window (slice_get jobs number) span second ≡ false
+
+-- a second and the number of a job are those of a start whose window meets the span, and no such start comes before it
+abbrev pub IsLeastWindow : List JobParts → Bounds → (entry : ℕ × ℕ) → Type 0
+IsLeastWindow jobs span entry =
+    (has_window (slice_get jobs entry.1) span entry.0 ≡ true)
+    × ((second number : ℕ) → has_window (slice_get jobs number) span second ≡ true → IsNotAfter entry (second, number))
+
+-- the first entry of an agenda is that of a start whose window meets the span, and no such start comes before it
+abbrev pub FirstIsLeast : Type 0
+FirstIsLeast = (jobs : List JobParts) (span : Bounds) (first : ℕ × ℕ)
+    → slice_get (agenda_of_windows (timings_of jobs) span) 0 ≡ Some first → IsLeastWindow jobs span first
+
+-- an agenda has no first entry exactly if the span is clear
+abbrev pub NoneWithoutWindows : Type 0
+NoneWithoutWindows = (jobs : List JobParts) (span : Bounds)
+    → (slice_get (agenda_of_windows (timings_of jobs) span) 0 ≡ None) ↔ IsClear jobs span
+
+-- in a clear span no job may start: at no second of the span from one of its starts to that start and its delay
+abbrev pub NothingStartsIfClear : Type 0
+NothingStartsIfClear = (jobs : List JobParts) (span : Bounds) (number start second : ℕ) (job : JobParts)
+    → slice_get (agenda_of_windows (timings_of jobs) span) 0 ≡ None → slice_get jobs number ≡ Some job
+    → is_start job.rule start ≡ true → start ≤ second → second ≤ start + job.delay → span.since ≤ second → second < span.upto → ⊥
+
+-- the earlier one of the first entry so far and of the entry that a job with a higher number has at a second; each may be missing
+abbrev pub earlier_of : (first : Option (ℕ × ℕ)) (second : Option ℕ) (number : ℕ) → Option (ℕ × ℕ)
+earlier_of first None number = first
+earlier_of None (Some second) number = Some (second, number)
+earlier_of (Some first) (Some second) number = if nat_le first.0 second then Some first else Some (second, number)

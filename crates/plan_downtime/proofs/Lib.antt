@@ -1,0 +1,5 @@
+pub mod TallyLemmas
+pub mod DowntimeLemmas
+pub mod LawLemmas
+pub mod DowntimeRows
+pub mod LinesRows

@@ -1,0 +1,9 @@
+pub mod HoursLemmas
+pub mod TableLemmas
+pub mod CountLemmas
+pub mod MetLemmas
+pub mod SumLemmas
+pub mod YearLemmas
+pub mod TextLemmas
+pub mod StartLaws
+pub mod WeekRows

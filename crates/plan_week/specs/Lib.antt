@@ -1,0 +1,5 @@
+pub mod Hours
+pub mod Week
+pub mod Table
+pub mod Texts
+pub mod Laws
