@@ -1,7 +1,7 @@
 //! What the lines of a timer file say of its job so far, without the events that are rejected (systemd.timer(5)).
 
 ghost use Rattle.std.specs.Prelude.{◌≡◌, OnOk};
-ghost use Rattle.plan_rules.specs.TimerEntries.{Empties, Names, draft_after, draft_of, line_shown, no_draft, with_event};
+ghost use Rattle.plan_rules.specs.TimerEntries.{Names, draft_after, draft_of, line_shown, no_draft, with_event};
 
 use crate::line_fault::LineCause;
 use crate::timer_events::TimerLine;
@@ -39,20 +39,13 @@ impl TimerDraft {
     {
         match line {
             TimerLine::Empties => {
-                self.empty();
+                self.events.clear();
                 Ok(())
             }
             TimerLine::Event(entry) => self.add_event(entry.read),
             TimerLine::Starts(unit) => self.name_unit(alloc, unit),
             TimerLine::Nothing => Ok(()),
         }
-    }
-
-    // Empties the list of events.
-    fn empty(&mut self)
-        ensures { draft_of self.new ≡ draft_after (draft_of self.old) Empties }
-    {
-        self.events.clear();
     }
 
     // Adds an event to the list, unless it is rejected.
