@@ -27,7 +27,7 @@ _agenda() {
                 [[ $command != machine\ -* ]] || command='machine upcoming'
                 break
                 ;;
-            next | plan | upcoming | quiet | downtime | clear | week | check | describe | steps | explain)
+            next | plan | upcoming | quiet | downtime | clear | changes | week | check | describe | steps | explain)
                 command=${words[at]}
                 break
                 ;;
@@ -82,6 +82,7 @@ _agenda() {
     local jobs="--keep-going --delays --json --local $sources"
     local search='--since= --upto= --until= --planners= --room='
     local span="$search --limit="
+    local sizes='--planners= --room= --limit='
     local machine='--root= --all --zone= --utc --json --help'
     local form='--table --text'
     case $command:$cur in
@@ -89,7 +90,7 @@ _agenda() {
             mapfile -t COMPREPLY < <(compgen -W '--help --version' -- "$cur")
             ;;
         :*)
-            mapfile -t COMPREPLY < <(compgen -W 'next plan upcoming quiet downtime clear week check describe machine steps explain' -- "$cur")
+            mapfile -t COMPREPLY < <(compgen -W 'next plan upcoming quiet downtime clear changes week check describe machine steps explain' -- "$cur")
             ;;
         next:*)
             mapfile -t COMPREPLY < <(compgen -W '--after= --zone= --event-zones --count= --cron= --calendar= --json --local --help' -- "$cur")
@@ -115,6 +116,10 @@ _agenda() {
             mapfile -t COMPREPLY < <(compgen -W "$search --keep-going --nominal --local $sources" -- "$cur")
             [[ ${COMPREPLY-} == *= ]] && compopt -o nospace
             ;;
+        changes:-*)
+            mapfile -t COMPREPLY < <(compgen -W "$sizes --keep-going --json --local $sources" -- "$cur")
+            [[ ${COMPREPLY-} == *= ]] && compopt -o nospace
+            ;;
         check:-*)
             mapfile -t COMPREPLY < <(compgen -W "--deny= --allow= --json $sources" -- "$cur")
             [[ ${COMPREPLY-} == *= ]] && compopt -o nospace
@@ -128,7 +133,7 @@ _agenda() {
             [[ ${COMPREPLY-} == *= ]] && compopt -o nospace
             ;;
         machine:*)
-            mapfile -t COMPREPLY < <(compgen -W 'upcoming plan quiet downtime clear week check sources next describe' -- "$cur")
+            mapfile -t COMPREPLY < <(compgen -W 'upcoming plan quiet downtime clear changes week check sources next describe' -- "$cur")
             ;;
         machine\ plan:*)
             mapfile -t COMPREPLY < <(compgen -W "$span --except= --delays --strict $form $machine" -- "$cur")
@@ -144,6 +149,10 @@ _agenda() {
             ;;
         machine\ clear:*)
             mapfile -t COMPREPLY < <(compgen -W "$search --except= --nominal --strict ${machine/--json /}" -- "$cur")
+            [[ ${COMPREPLY-} == *= ]] && compopt -o nospace
+            ;;
+        machine\ changes:-*)
+            mapfile -t COMPREPLY < <(compgen -W "$sizes --except= --strict $machine" -- "$cur")
             [[ ${COMPREPLY-} == *= ]] && compopt -o nospace
             ;;
         machine\ week:*)
@@ -172,7 +181,7 @@ _agenda() {
         steps:-*)
             mapfile -t COMPREPLY < <(compgen -W '--help' -- "$cur")
             ;;
-        steps:*)
+        steps:* | changes:* | machine\ changes:*)
             _filedir
             ;;
         explain:-*)

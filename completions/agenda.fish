@@ -13,13 +13,14 @@ function __fish_agenda_zones
     end
 end
 
-set -l none 'not __fish_seen_subcommand_from next plan upcoming quiet downtime clear week check describe machine steps explain'
+set -l none 'not __fish_seen_subcommand_from next plan upcoming quiet downtime clear changes week check describe machine steps explain'
 complete -c agenda -n $none -a next -d 'Print the next starts of one rule'
 complete -c agenda -n $none -a plan -d 'Print every start in a span of time'
 complete -c agenda -n $none -a upcoming -d 'Print when each job of crontabs and timers starts next'
 complete -c agenda -n $none -a quiet -d 'Print the gaps in which no job starts'
 complete -c agenda -n $none -a downtime -d 'Print what a machine misses while it is down'
 complete -c agenda -n $none -a clear -d 'Succeed if no job starts in a span'
+complete -c agenda -n $none -a changes -d 'Compare a plan with one that was made before'
 complete -c agenda -n $none -a week -d 'Show how many jobs start in each hour'
 complete -c agenda -n $none -a check -d 'Print errors and likely mistakes in crontabs and timers'
 complete -c agenda -n $none -a describe -d 'Say in words when a rule or each job starts'
@@ -33,7 +34,7 @@ set -l after '__fish_seen_subcommand_from next upcoming'
 complete -c agenda -n $after -l after -x -d 'Only starts later than this time'
 
 # machine has a command check of its own
-set -l zone 'not __fish_seen_subcommand_from machine; and __fish_seen_subcommand_from next plan upcoming quiet downtime clear week check describe'
+set -l zone 'not __fish_seen_subcommand_from machine; and __fish_seen_subcommand_from next plan upcoming quiet downtime clear changes week check describe'
 complete -c agenda -n $zone -l zone -r -F -d 'The time zone of the rules [UTC]' -a '(__fish_agenda_zones)'
 complete -c agenda -n $zone -l event-zones -d 'Read events that end with a time zone'
 complete -c agenda -n "$zone; and not __fish_seen_subcommand_from clear" -l json -d 'Print each line as a JSON object'
@@ -42,7 +43,7 @@ set -l check '__fish_seen_subcommand_from check'
 complete -c agenda -n $check -l deny -x -d 'Print this warning as an error' -a 'all (agenda explain 2>/dev/null)'
 complete -c agenda -n $check -l allow -x -d 'Don\'t print this warning' -a '(agenda explain 2>/dev/null)'
 
-set -l times '__fish_seen_subcommand_from next plan upcoming quiet; or begin; not __fish_seen_subcommand_from machine; and __fish_seen_subcommand_from clear; end'
+set -l times '__fish_seen_subcommand_from next plan upcoming quiet; or begin; not __fish_seen_subcommand_from machine; and __fish_seen_subcommand_from clear changes; end'
 complete -c agenda -n $times -l local -d 'Print times in the time zone of the rules'
 
 set -l next 'not __fish_seen_subcommand_from machine; and __fish_seen_subcommand_from next'
@@ -58,10 +59,12 @@ set -l span '__fish_seen_subcommand_from plan quiet downtime clear week'
 complete -c agenda -n $span -l since -x -d 'The start of the span'
 complete -c agenda -n $span -l upto -x -d 'The end of the span, not included'
 complete -c agenda -n $span -l until -x -d 'The end of the span, not included'
-complete -c agenda -n $span -l planners -x -d 'How many threads search [2]' -a '1 2 3 4 5 6 7 8'
-complete -c agenda -n $span -l room -x -d 'How many messages of each thread may wait, from 1 to 1024 [16]'
 
-set -l plan '__fish_seen_subcommand_from plan'
+set -l searching '__fish_seen_subcommand_from plan quiet downtime clear changes week'
+complete -c agenda -n $searching -l planners -x -d 'How many threads search [2]' -a '1 2 3 4 5 6 7 8'
+complete -c agenda -n $searching -l room -x -d 'How many messages of each thread may wait, from 1 to 1024 [16]'
+
+set -l plan '__fish_seen_subcommand_from plan changes'
 complete -c agenda -n $plan -l limit -x -d 'The maximum number of starts, from 1 to 1000000 [10000]'
 
 set -l counted '__fish_seen_subcommand_from quiet downtime week'
@@ -70,25 +73,27 @@ complete -c agenda -n $counted -l limit -x -d 'The maximum number of starts, fro
 set -l quiet '__fish_seen_subcommand_from quiet'
 complete -c agenda -n $quiet -l least -x -d 'The minimum length of a gap in seconds [1800]'
 
-set -l keeping 'not __fish_seen_subcommand_from machine; and __fish_seen_subcommand_from plan upcoming quiet downtime clear week describe'
+set -l keeping 'not __fish_seen_subcommand_from machine; and __fish_seen_subcommand_from plan upcoming quiet downtime clear changes week describe'
 complete -c agenda -n $keeping -l keep-going -d 'Skip what is invalid or can\'t be read, and report it'
 
 set -l jobs '__fish_seen_subcommand_from plan upcoming quiet'
 complete -c agenda -n $jobs -l delays -d 'Include the delays of timers'
 
-set -l sources 'not __fish_seen_subcommand_from machine; and __fish_seen_subcommand_from plan upcoming quiet downtime clear week check describe'
+set -l sources 'not __fish_seen_subcommand_from machine; and __fish_seen_subcommand_from plan upcoming quiet downtime clear changes week check describe'
 complete -c agenda -n $sources -l crontab -r -F -d 'A user\'s crontab'
 complete -c agenda -n $sources -l system-crontab -r -F -d 'The system\'s crontab'
 complete -c agenda -n $sources -l cron-d -r -F -d 'A crontab of a package'
 complete -c agenda -n $sources -l spool -r -F -d 'A user\'s crontab, named by the user'
 complete -c agenda -n $sources -k -a '(__fish_complete_suffix .timer)'
+complete -c agenda -n '__fish_seen_subcommand_from changes' -F
 
-set -l machine '__fish_seen_subcommand_from machine; and not __fish_seen_subcommand_from upcoming plan quiet downtime clear week check sources next describe'
+set -l machine '__fish_seen_subcommand_from machine; and not __fish_seen_subcommand_from upcoming plan quiet downtime clear changes week check sources next describe'
 complete -c agenda -n $machine -a upcoming -d 'Print when each job of a machine starts next'
 complete -c agenda -n $machine -a plan -d 'Print every start of a machine\'s jobs in a span of time'
 complete -c agenda -n $machine -a quiet -d 'Print the gaps in which no job of a machine starts'
 complete -c agenda -n $machine -a downtime -d 'Print what a machine misses while it is down'
 complete -c agenda -n $machine -a clear -d 'Succeed if no job of a machine starts in a span'
+complete -c agenda -n $machine -a changes -d 'Compare a machine\'s plan with one made before'
 complete -c agenda -n $machine -a week -d 'Show how many jobs of a machine start in each hour'
 complete -c agenda -n $machine -a check -d 'Print errors and likely mistakes in a machine\'s crontabs and timers'
 complete -c agenda -n $machine -a sources -d 'List a machine\'s crontabs and timers'
@@ -111,7 +116,7 @@ complete -c agenda -n '__fish_seen_subcommand_from machine; and not __fish_seen_
     -d 'Ignore the job with this name, as it is printed'
 complete -c agenda -n '__fish_seen_subcommand_from machine; and not __fish_seen_subcommand_from check sources next' -l strict \
     -d 'Let an error in a file stop the answer'
-set -l formed '__fish_seen_subcommand_from machine; and not __fish_seen_subcommand_from check sources clear week'
+set -l formed '__fish_seen_subcommand_from machine; and not __fish_seen_subcommand_from check sources clear changes week'
 complete -c agenda -n $formed -l table -d 'Print a table, also if this isn\'t a terminal'
 complete -c agenda -n $formed -l text -d 'Print text, also on a terminal'
 complete -c agenda -n '__fish_seen_subcommand_from clear; or begin; __fish_seen_subcommand_from machine; and __fish_seen_subcommand_from quiet; end' -l nominal \

@@ -12,6 +12,7 @@ printf '* * * * * x\n' >"$devices_folder/minutes"
 printf '[Timer]\nOnCalendar=daily\n' >"$devices_folder/d.timer"
 printf 'mailbox 1 1\ntake\n' >"$devices_folder/script"
 printf '@dayly a\n' >"$devices_folder/faulty"
+printf 'agenda 2\t2024-01-01T00:00:00Z\t2024-01-02T00:00:00Z\t0\n' >"$devices_folder/before"
 mkfifo "$devices_folder/pipe" "$devices_folder/pipe.timer"
 devices_day="--since 2024-01-01T00:00:00Z --upto 2024-01-02T00:00:00Z"
 devices_limits='ulimit -c 0; ulimit -t 2; ulimit -s 512; ulimit -d 16384'
@@ -111,6 +112,8 @@ devices_left() {
   compare_texts "an empty answer to a pipe without a reader" '' '' 0
   devices_run 'exec agenda clear --since 2024-01-01T00:00:01Z --until 2024-01-01T01:00:00Z --crontab jobs >&-'
   compare_texts "a clear span, standard output closed" '' '' 0
+  devices_run 'exec agenda changes before >&-'
+  compare_texts "no change, standard output closed" '' '' 0
   # what is skipped is reported before the answer, and other errors are reported as always
   devices_run "exec 3<>left 4>left 3>&-; exec agenda plan $devices_day --keep-going --crontab jobs nothing >&4 4>&-"
   compare_texts "a plan that keeps going to a pipe without a reader" '' $'agenda: nothing: Device\n' 3
@@ -129,7 +132,7 @@ devices_left() {
 # that is full it is an error.
 devices_help() {
   local command to
-  for command in '' next plan upcoming quiet downtime clear week check describe steps explain; do
+  for command in '' next plan upcoming quiet downtime clear changes week check describe steps explain; do
     devices_run "exec agenda $command --help"
     cp "$work/out" "$work/help.wanted"
     [ -s "$work/out" ] || tell "nothing on standard output"
@@ -176,6 +179,12 @@ check --crontab jobs d.timer loop.timer .|3|loop.timer: Device
 downtime --since 2024-01-01T00:00:00Z --until 2024-01-02T00:00:00Z --crontab jobs loop.timer|3|loop.timer: Device
 clear --since 2024-01-01T00:00:01Z --until 2024-01-01T01:00:00Z --crontab jobs zero.timer|1|zero.timer: line 0: TooLarge
 clear --since 2024-01-01T00:00:01Z --until 2024-01-01T01:00:00Z --crontab jobs/|3|jobs/: Device
+changes . --crontab .|3|.: Device
+changes before/ zero.timer|3|before/: Device
+changes loop.timer|3|loop.timer: Device
+changes before zero.timer|1|zero.timer: line 0: TooLarge
+changes /dev/zero|3|NoMemory
+changes jobs|1|jobs:1: not a line of agenda plan [BadBaseline]
 week --since 2024-01-01T00:00:00Z --until 2024-01-02T00:00:00Z --crontab .|3|.: Device
 ROWS
 
@@ -194,6 +203,9 @@ devices_pipes <<'ROWS'
 :|plan --system-crontab pipe|0
 :|plan pipe.timer|1 agenda: pipe.timer: line 0: NoTimerSection\n
 :|steps pipe|1 agenda: script: line 1: BadLine\n
+:|changes pipe|1 agenda: pipe:1: not a line of agenda plan [BadBaseline]\n
+cat before; sleep 0.1; echo x|changes pipe|1 agenda: pipe:2: not a line of agenda plan [BadBaseline]\n
+head -c 30 before; sleep 0.1; tail -c +31 before|changes pipe|0
 printf @dai|plan --crontab pipe|1 agenda: crontab: line 1: part 0: UnknownWord\n
 printf @dai; sleep 0.1; printf 'ly a'|plan --crontab pipe|0 2024-01-01T00:00:00Z\tcron:1\ta\n
 printf '@daily u'; sleep 0.1; printf ' a'|plan --system-crontab pipe|0 2024-01-01T00:00:00Z\tsystem:1\tu a\n
@@ -213,6 +225,8 @@ steps|2
 next --after 2024 --cron x|1
 plan --since 2024-01-01T00:00:00Z --upto 2024-01-01T00:01:00Z zero.timer|1
 steps nothing|3
+changes nothing|3
+changes script|1
 plan --since 2024-01-01T00:00:00Z --upto 2024-01-01T00:01:00Z loop.timer|3
 check loop.timer|3
 downtime --since 2024 --until 2024|1
@@ -238,6 +252,8 @@ quiet day --crontab jobs
 quiet day --crontab jobs --json
 downtime day --crontab jobs d.timer
 downtime day --crontab jobs d.timer --json --keep-going
+changes before --crontab jobs
+changes before --crontab jobs d.timer --json --local --keep-going
 clear day --crontab jobs
 clear day --crontab jobs d.timer --nominal --local --keep-going
 week day --crontab jobs
@@ -260,4 +276,6 @@ downtime --since 2024-01-01T00:00:00Z --until 2024-01-02T00:00:00Z --spool
 clear --since 2024-01-01T00:00:01Z --until 2024-01-01T01:00:00Z --crontab jobs
 week --since 2024-01-01T00:00:00Z --until 2024-01-02T00:00:00Z --crontab jobs
 check --crontab jobs --spool
+changes
+changes before --crontab
 ROWS

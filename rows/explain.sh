@@ -133,6 +133,7 @@ explain_try() {
     zone) eval "agenda next --after 2024-01-01T00:00:00Z --cron @daily $words" >/dev/null ;;
     moment) printf '@daily a\n' >"jobs" && eval "$words" >/dev/null ;;
     machine) mkdir -p root && eval "$words --root root" >/dev/null ;;
+    baseline) eval "${words/ .. / --since 2024-01-01T00:00:00Z --until 2024-01-02T00:00:00Z }" && agenda changes before ;;
     span) eval "agenda plan --since 2024-01-01T00:00:00Z $words" >/dev/null ;;
   esac
   cd "$top" || return
@@ -167,6 +168,7 @@ explain_without_output() {
 
 explain_all_codes <<'ROWS'
 Backwards
+BadBaseline
 BadBoolean
 BadCount
 BadDelay
@@ -248,6 +250,7 @@ explain_without_output
 # what each example shows
 explain_examples <<'ROWS'
 Backwards crontab|0 22-4 * * * backup|0 22-23,0-4 * * * backup
+BadBaseline baseline|agenda plan --json .. >before|agenda plan .. >before
 BadBoolean setting|Persistent=enabled|Persistent=yes
 BadDelay setting|AccuracySec=5mins|AccuracySec=5min
 BadForm moment|agenda upcoming --after '2024-01-01 6:00' --crontab jobs|agenda upcoming --after 2024-01-01T06:00:00Z --crontab jobs

@@ -28,6 +28,7 @@ json_make_files() {
   json_file never.timer '[Timer]\nOnCalendar=*-2-30\n'
   json_file 'a\x2db.timer' '[Timer]\nOnCalendar=daily\nUnit=x\\x2dy.target\n'
   json_file empty.timer '[Timer]\n'
+  json_file before 'agenda 2\t2024-01-01T00:00:00Z\t2024-01-02T00:00:00Z\t2\n2024-01-01T00:00:00Z\tcron:1\tb\n2024-01-01T04:00:00Z\t"\x01\ta\\b\n'
   json_file faulty '@dayly\x7f\x01 a\n*/\\ * * * * c\n@d"y a\n0 0 31 2 * d\n@daily\n'
   json_file latin '@daily \xe4\n'
   json_file $'a"b\\c/tab\t\001\037\177\303\251' '@daily\n'
@@ -47,6 +48,7 @@ json_as_text() {
     elif has("from") then [at("from_local"; "from"), at("until_local"; "until"), "\(.seconds)"] | join("\t")
     elif has("then") then [.first, .last, "\(.starts)", .then, .job, (if has("user") then .user + " " else "" end) + .run] | join("\t")
     else [
+      (if has("change") then .change else empty end),
       at("local"; "start"),
       (if has("latest") then at("latest_local"; "latest") else empty end),
       (if has("job") then .job, (if has("user") then .user + " " else "" end) + .run else empty end)
@@ -163,6 +165,16 @@ json_rows 0 downtime "${day[@]}" --cron-d cron.d/users 'a\x2db.timer' <<'JSON'
 {"first":"2024-01-01T00:00:00Z","last":"2024-01-01T00:00:00Z","starts":1,"then":"lost","job":"a\\x2db.timer","run":"x\\x2dy.target"}
 JSON
 json_rows 0 downtime "${day[@]}" never.timer empty.timer </dev/null
+
+# What differs from an earlier agenda. The user is a part of what is run.
+json_rows 1 changes before --crontab jobs --cron-d cron.d/users night.timer <<'JSON'
+{"change":"+","start":"2024-01-01T00:00:00Z","job":"users:1","run":"r\"o\\t\u0001\u007f é x"}
+{"change":"+","start":"2024-01-01T02:30:00Z","job":"night.timer","run":"night.service"}
+{"change":"-","start":"2024-01-01T04:00:00Z","job":"\"\u0001","run":"a\\b"}
+JSON
+json_rows 1 changes before --local --crontab jobs <<'JSON'
+{"change":"-","start":"2024-01-01T04:00:00Z","local":"2024-01-01T04:00:00+00:00","job":"\"\u0001","run":"a\\b"}
+JSON
 
 # Findings: in a line, and about a whole file. Quotes and backslashes of a message are escaped once more.
 json_rows 1 check --crontab faulty --system-crontab latin empty.timer never.timer late.timer <<'JSON'

@@ -377,6 +377,25 @@ largest_windows() {
   compare_texts "the first of 1,000,000 starts" "$largest_since$tab$largest_since${tab}cron:1${tab}x"$'\n' '' 1
 }
 
+# The differences between two agendas of 1,000,000 starts, 1,000 in each minute: there are none, or half of them. The earlier one is kept as
+# text, which takes as much memory as 12 starts for each of its own.
+largest_changes() {
+  local upto=2024-01-01T16:40:00Z
+  largest_run minutes 1000000 plan --since "$largest_since" --until "$upto" --limit 1000000 --crontab minutes
+  cp -- "$work/out" "$largest_folder/before"
+  largest_run minutes 13000000 changes before --limit 1000000 --crontab minutes
+  compare_texts "no difference between 1,000,000 starts and as many" '' '' 0
+  { yes '* * * * * x' | head -n 500 && yes '* * * * * y' | head -n 500; } >"$largest_folder/halves"
+  awk -F '\t' -v OFS='\t' '
+    function put() { for (job = 501; job <= 1000; job++) print "+", before, "cron:" job, "y" }
+    NR == 1 { next }
+    $1 != before { if (NR > 2) put(); before = $1; count = 0 }
+    ++count > 500 { print "-", $0 }
+    END { put() }' "$largest_folder/before" >"$work/changes.wanted"
+  largest_run minutes 13000000 changes before --limit 1000000 --crontab halves --planners 8
+  compare "the differences between 1,000,000 starts and as many" "$work/changes.wanted" /dev/null 1
+}
+
 # The memory is really limited: 8 MB are too little for the largest agenda.
 largest_bound() {
   largest_run minutes 0 plan --since "$largest_since" --upto 2024-01-01T16:40:00Z --limit 1000000 --crontab minutes
@@ -401,4 +420,5 @@ largest_zones
 largest_agendas
 largest_gaps
 largest_windows
+largest_changes
 largest_bound

@@ -162,7 +162,7 @@ runs_streams() {
       program_run $words --root root
       program_compare "$words $to" /dev/null "$work/err.wanted" 3
     done
-    for words in 'next @daily' --help {plan,upcoming,quiet,downtime,clear,week,check,sources,next}' --help'; do
+    for words in 'next @daily' --help {plan,upcoming,quiet,downtime,clear,changes,week,check,sources,next}' --help'; do
       # shellcheck disable=SC2086
       program_run $words
       program_compare "$words $to" /dev/null "$work/err.wanted" 3
@@ -209,20 +209,21 @@ runs_unreported() {
   machine_by=()
 }
 
+printf 'agenda 2\t2024-01-01T00:00:00Z\t2024-01-02T00:00:00Z\t0\n' >"$machine_folder/before"
 # A name that is skipped, a file that can't be read, what isn't planned, crontabs without a cron daemon, the zone, and an error
 # that is skipped; then errors, whose status stays, and none of these.
 runs_unreported <<'ROWS'
 C/a.b|sources,plan,plan --strict,plan --table --since 2024-01-01|3
-C/a/|sources,check,downtime,clear,week|3
+C/a/|sources,check,downtime,clear,changes before,week|3
 etc/anacrontab|sources,check|3
 *a.timer U/a.timer=[Timer]\nOnBootSec=5|upcoming|3
 F/atjobs/a root/.config/systemd/user/a.timer|quiet|3
 etc/crontab|sources,plan|3
 etc/localtime>UTC|check,upcoming|3
 S/u=A|upcoming|3
-etc/anacrontab|plan x,sources x,clear x,--frob|2
+etc/anacrontab|plan x,sources x,clear x,changes,--frob|2
 etc/anacrontab|quiet --since frob,plan --zone Nowhere/At_all,clear --until frob|1
-C/.b|sources,plan --utc --since 2024-01-01,check,plan --table --utc --since 2024-01-01,clear,week --since 2024-01-01 --until 2024-01-03|0
+C/.b|sources,plan --utc --since 2024-01-01,check,plan --table --utc --since 2024-01-01,clear,changes before,week --since 2024-01-01 --until 2024-01-03|0
 ROWS
 
 # Standard input isn't used.

@@ -1,6 +1,6 @@
 # shellcheck shell=bash disable=SC2154,SC2034
-# Rows of `agenda machine downtime`, `clear` and `week`: what a machine's jobs miss, whether one starts, and how many start in each hour, with
-# what is skipped and with local times; their tables, their spans if none is given, and their errors. Expected lines are worked out by hand: CET
+# Rows of `agenda machine downtime`, `clear`, `changes` and `week`: what a machine's jobs miss, whether one starts, what differs from an earlier
+# agenda, and how many start in each hour, with what is skipped and with local times; their tables, their spans if none is given, and their errors. Expected lines are worked out by hand: CET
 # is the zone of Berlin, where clocks skip 02:00 to 03:00 on 31 March 2024 and 30 March 2025, and show it twice on 26 October 2025.
 
 # shellcheck source=/dev/null
@@ -177,6 +177,74 @@ S/u=@daily\x20a\n|clear --since 2024-01-01T00:00:01Z --until 2024-01-02|||cron|0
 ROWS
 machine_has_cron=yes
 
+# ---- changes
+
+# Earlier agendas: one of a day, one of the night in which the clock shows two o'clock twice, one of an hour without a start, and one with a
+# wrong line.
+printf 'agenda 2\t2024-01-01T00:00:00Z\t2024-01-02T00:00:00Z\t1\n2024-01-01T02:00:00Z\tu:1\ta\n' >"$machine_folder/before"
+printf '%b' 'agenda 2 local\t2024-10-27T02:00:00+02:00\t2024-10-27T03:00:00+01:00\t2\n' \
+  '2024-10-27T02:30:00+02:00\tu:1\ta\n2024-10-27T02:30:00+01:00\tu:1\ta\n' >"$machine_folder/night"
+printf 'agenda 2\t2024-01-01T00:00:00Z\t2024-01-01T01:00:00Z\t0\n' >"$machine_folder/hour"
+printf 'agenda 2\t2024-01-01T00:00:00Z\t2024-01-01T01:00:00Z\t0\nx\n' >"$machine_folder/wrong"
+
+# Times are local, or in UTC. Jobs are compared by when they start and what they run, so one may move to another file.
+windows_answers <<'ROWS'
+S/u=0\x202\x20*\x20*\x20*\x20a\n|changes before||||0
+S/u=#\n0\x202\x20*\x20*\x20*\x20a\n|changes before --utc||||0
+S/v=@reboot\x20b\n0\x202\x20*\x20*\x20*\x20a\n|changes before||||0
+S/u=0\x203\x20*\x20*\x20*\x20a\n|changes before|->2024-01-01T02:00:00+00:00>u:1>a;+>2024-01-01T03:00:00+00:00>u:1>a|||1
+S/u=0\x203\x20*\x20*\x20*\x20a\n|changes before --utc|->2024-01-01T02:00:00Z>u:1>a;+>2024-01-01T03:00:00Z>u:1>a|||1
+etc/crontab=0\x202\x20*\x20*\x20*\x20root\x20a\n|changes before --utc|->2024-01-01T02:00:00Z>u:1>a;+>2024-01-01T02:00:00Z>system:1>root a|||1
+x/|changes before|->2024-01-01T02:00:00+00:00>u:1>a|||1
+x/|changes hour||||0
+etc/localtime=CET S/u=0\x202\x20*\x20*\x20*\x20a\n|changes before|+>2024-01-01T02:00:00+01:00>u:1>a;->2024-01-01T03:00:00+01:00>u:1>a|||1
+etc/localtime=CET S/u=0\x202\x20*\x20*\x20*\x20a\n|changes before --zone UTC||||0
+etc/localtime=CET S/u=0\x203\x20*\x20*\x20*\x20a\n|changes before||||0
+etc/localtime=CET S/u=30\x20*\x20*\x20*\x20*\x20a\n|changes night||||0
+etc/localtime=CET S/u=30\x202\x20*\x20*\x20*\x20a\n|changes night|->2024-10-27T02:30:00+01:00>u:1>a|||1
+etc/localtime=CET S/u=30\x202\x20*\x20*\x20*\x20a\n|changes night --utc|->2024-10-27T00:30:00Z>u:1>a;->2024-10-27T01:30:00Z>u:1>a|||1
+S/u=0\x202\x20*\x20*\x20*\x20a\n0\x202\x20*\x20*\x20*\x20a\n|changes before --planners 8 --room 1|+>2024-01-01T02:00:00+00:00>u:2>a|||1
+S/u=0\x202\x20*\x20*\x20*\x20a\n *a.timer U/a.timer=[Timer]\nOnCalendar=06:00\nRandomizedDelaySec=1d\n|changes before|+>2024-01-01T06:00:00+00:00>a.timer>a.service|||1
+S/u=0\x202\x20*\x20*\x20*\x20a\n U/a.timer=DAILY|changes before||||0
+S/u=0\x202\x20*\x20*\x20*\x20a\n U/a.timer=DAILY|changes before --all|+>2024-01-01T00:00:00+00:00>a.timer>a.service|||1
+S/u=0\x202\x20*\x20*\x20*\x20a\n|changes before --except u:1|->2024-01-01T02:00:00+00:00>u:1>a|||1
+S/u=0\x202\x20*\x20*\x20*\x20a\n S/v=0\x203\x20*\x20*\x20*\x20a\n|changes before --except v:1||||0
+S/u=0\x203\x20*\x20*\x20*\x20a\n|changes before --json|{"change":"-","start":"2024-01-01T02:00:00Z","local":"2024-01-01T02:00:00+00:00","job":"u:1","run":"a"};{"change":"+","start":"2024-01-01T03:00:00Z","local":"2024-01-01T03:00:00+00:00","job":"u:1","run":"a"}|||1
+etc/crontab=0\x203\x20*\x20*\x20*\x20root\x20a\n S/u=0\x202\x20*\x20*\x20*\x20a\n|changes before --json --utc|{"change":"+","start":"2024-01-01T03:00:00Z","job":"system:1","run":"root a"}|||1
+ROWS
+
+# What is skipped is reported, and its status is 1, also if nothing changed. The jobs of a crontab that cron ignores are gone. With --strict an
+# error stops the answer.
+windows_answers <<'ROWS'
+S/u=x\n0\x202\x20*\x20*\x20*\x20a\n|changes before|->2024-01-01T02:00:00+00:00>u:1>a|root/var/spool/cron/crontabs/u:1: error: expected NAME=VALUE, or five fields and a command [BadSetting]|not S/u cron ignores this file because of line 1|1
+S/u=0\x202\x20*\x20*\x20*\x20a\n *a.timer U/a.timer=[Timer]\nOnCalendar=24:00\n|changes before||root/usr/lib/systemd/system/a.timer:2: error: hour in '24:00': out of range 0-23 [OutOfRange]||1
+S/u=0\x203\x20*\x20*\x20*\x20a\n *a.timer U/a.timer=[Timer]\nOnCalendar=24:00\n|changes before|->2024-01-01T02:00:00+00:00>u:1>a;+>2024-01-01T03:00:00+00:00>u:1>a|root/usr/lib/systemd/system/a.timer:2: error: hour in '24:00': out of range 0-23 [OutOfRange]||1
+S/u=x\n0\x203\x20*\x20*\x20*\x20a\n|changes before --strict||root/var/spool/cron/crontabs/u:1: error: expected NAME=VALUE, or five fields and a command [BadSetting]|not S/u cron ignores this file because of line 1|1
+C/a/ S/u=0\x202\x20*\x20*\x20*\x20a\n|changes before|||C/a not readable|1
+C/a/ S/u=0\x203\x20*\x20*\x20*\x20a\n|changes before --utc --strict|->2024-01-01T02:00:00Z>u:1>a;+>2024-01-01T03:00:00Z>u:1>a||C/a not readable|1
+etc/anacrontab S/u=0\x202\x20*\x20*\x20*\x20a\n|changes before|||anacron|0
+S/u=0\x202\x20*\x20*\x20*\x20a\n *a.timer U/a.timer=[Timer]\nOnBootSec=5\n|changes before|||monotonic U/a.timer|0
+ROWS
+
+# What plan prints of a machine is read, in its zone and in UTC, and from standard input.
+windows_round_trips() {
+  local words
+  program_make 'etc/localtime=CET etc/crontab=*/30\x20*\x20*\x20*\x20*\x20root\x20a\x20\x20b\n S/u=30\x202\x20*\x20*\x20*\x20c\n *a.timer U/a.timer=DAILY'
+  for words in '' --utc '--zone UTC'; do
+    # shellcheck disable=SC2086
+    program_run plan --root root --since 2025-10-25 --until 2025-10-27 $words
+    cp -- "$work/out" "$machine_folder/plan"
+    { [ "$(wc -l <"$work/out")" -gt 90 ] || cat "$work/out" "$work/err"; } >"$work/told"
+    count "agenda machine: a plan $words"
+    # shellcheck disable=SC2086
+    program_run changes plan --root root $words
+    program_compare "changes of what plan $words printed" /dev/null /dev/null 0
+    run_in "$machine_folder" bash -c "exec agenda machine changes --root root - $words <plan"
+    program_compare "changes - $words" /dev/null /dev/null 0
+  done
+}
+windows_round_trips
+
 # ---- week
 
 # Days and hours are those of the machine's zone. The hour that its clock skips is a blank, and the one that it shows twice counts twice.
@@ -243,6 +311,12 @@ $windows_command --room 1025|agenda: --room: not from 1 to 1024: '1025' [BadSize
 ROWS
 done
 windows_errors <<'ROWS'
+changes before --zone Nowhere/At_all|agenda: zone 'Nowhere/At_all': no such zone [NoSuchZone]
+changes wrong --planners 0|agenda: wrong:2: not a line of agenda plan [BadBaseline]
+changes before --planners 0|agenda: --planners: not from 1 to 8: '0' [BadSize]
+changes before --room 0 --limit 0|agenda: --room: not from 1 to 1024: '0' [BadSize]
+changes before --limit 1000001|agenda: --limit: not from 1 to 1000000: '1000001' [BadLimit]
+changes before --limit 1439|agenda: more than 1439 starts: give a shorter span, or --limit N [TooMany]
 downtime --limit 0|agenda: --limit: not from 1 to 1000000: '0' [BadLimit]
 downtime --room 0 --limit 0|agenda: --room: not from 1 to 1024: '0' [BadSize]
 week --limit 1000001|agenda: --limit: not from 1 to 1000000: '1000001' [BadLimit]
@@ -253,6 +327,9 @@ week --since 2024-01-01T00:00:00Z --until 2026-01-01T00:00:00Z|agenda: more than
 ROWS
 windows_answers <<'ROWS'
 S/u=x\n|clear --planners 0||agenda: --planners: not from 1 to 8: '0' [BadSize]||1
+S/u=x\n|changes wrong||agenda: wrong:2: not a line of agenda plan [BadBaseline]||1
+S/u=x\n|changes nothing --planners 0||agenda: nothing: Device||3
+S/u=x\n|changes root||agenda: root: Device||3
 S/u=*\x20*\x20*\x20*\x20*\x20a\n S/v=x\n|week --limit 59 --since 2024-01-01T00:00:00Z --until 2024-01-01T01:00:00Z||root/var/spool/cron/crontabs/v:1: error: expected NAME=VALUE, or five fields and a command [BadSetting];agenda: more than 59 starts: give a shorter span, or --limit N [TooMany]|not S/v cron ignores this file because of line 1|1
 ROWS
 
@@ -267,9 +344,15 @@ for windows_words in 'downtime' 'downtime --table' 'downtime --json' 'clear' 'we
   done
 done
 
+for windows_to in '>&-' '>/dev/full'; do
+  [[ $windows_to != *full ]] || [ -c /dev/full ] || continue
+  run_in "$machine_folder" bash -c "exec agenda machine changes before --root root $windows_to"
+  program_compare "changes $windows_to" /dev/null "$work/err.wanted" 3
+done
+
 # ---- a terminal
 
-# There downtime prints its table, whose lines but the last are cut. A picture and the line of clear are as in a pipe.
+# There downtime prints its table, whose lines but the last are cut. A picture and the lines of clear and changes are as in a pipe.
 windows_on_terminal() {
   program_make 'S/u=30\x20*\x20*\x20*\x20*\x20aaaaaaaaaaaaaaaaaaaaaaaaaaaaaa\n'
   windows_terminal 'downtime|--since|2024-01-01|--until|2024-01-02' <<'TABLE'
@@ -287,13 +370,16 @@ TABLE
 2024-01-01T00:30:00Z${tab}u:1${tab}aaaaaaaaaaaaaaaaaaaaaaaaaaaaaa
 TABLE
   windows_terminal 'clear|--since|2024-01-01T00:30:01Z|--until|2024-01-01T01:30:00Z' </dev/null
+  windows_terminal 'changes|hour' 1 <<TABLE
++${tab}2024-01-01T00:30:00+00:00${tab}u:1${tab}aaaaaaaaaaaaaaaaaaaaaaaaaaaaaa
+TABLE
   picture_of '24 starts from 2024-01-01T00:00:00Z to 2024-01-02T00:00:00Z, UTC' <<'DAYS'
 Mon 2024-01-01|111111111111111111111111|24
 all days|111111111111111111111111|24
 DAYS
   windows_terminal 'week|--utc|--since|2024-01-01|--until|2024-01-02' <"$work/picture.wanted"
 }
-passed_over "agenda machine: downtime, clear and week on a terminal" script || windows_on_terminal
+passed_over "agenda machine: downtime, clear, changes and week on a terminal" script || windows_on_terminal
 
 # ---- at 2025-03-29T11:00:00Z, a Saturday
 

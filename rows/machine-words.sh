@@ -253,6 +253,47 @@ skipped, or if a file can't be read.
 Example:
   agenda machine clear --until +90min && reboot
 END
+  cat >"$machine_words_folder/changes.text" <<'END'
+Compares a machine's plan with one made before
+
+Usage: agenda machine changes [OPTIONS] <BEFORE>
+
+Arguments:
+  <BEFORE>  A file with what 'plan' printed, as text
+
+Options:
+      --root <DIR>    Read the machine whose root directory is DIR [default: /]
+      --all           Include timers that aren't enabled
+      --zone <ZONE>   The time zone of the rules, such as Europe/Berlin,
+                      or the path of a TZif file; that of the machine
+                      if it isn't given
+      --utc           Read the rules in UTC, like --zone UTC, and print
+                      times in UTC
+      --except <JOB>  Ignore the job with this name, as it is printed;
+                      may be given more than once
+      --strict        Let an error in a file stop the answer, instead of
+                      skipping what is invalid
+      --json          Print each line as a JSON object; agenda(1)
+                      describes the keys
+      --limit <N>     The maximum number of starts, from 1 to 1000000;
+                      more are an error [default: 1000000]
+  -h, --help          Print help
+
+Tuning (the output stays the same):
+      --planners <N>  How many threads search, from 1 to 8 [default: 2]
+      --room <N>      How many messages of each thread may wait,
+                      from 1 to 1024 [default: 16]
+
+Prints what 'agenda changes' prints, about the files that 'agenda machine sources' lists.
+BEFORE has what 'agenda machine plan' printed into a file. Times are those of the machine's
+clocks, with their offset from UTC. Standard error has a line for each file that is skipped
+or isn't planned, and the errors of the files. The exit status is 1 if a start changed, if
+there is such an error or if a file can't be read, otherwise 0.
+
+Example:
+  agenda machine plan --until +7d >before
+  agenda machine changes before
+END
   cat >"$machine_words_folder/week.text" <<'END'
 Shows how many jobs of a machine start in each hour
 
@@ -321,6 +362,8 @@ downtime downtime|--help
 downtime downtime|--since|x|--utc|--table|-h
 clear clear|--help
 clear clear|--root|none|--nominal|-h
+changes changes|--help
+changes changes|nothing|--root|none|-h
 week week|--help
 week week|--until|x|--zone|Nowhere/City|-h
 END
@@ -374,7 +417,7 @@ For more information, try '--help'.
 END
   for words in 'check|--zone|Europe/Berlin|--utc' 'check|--utc|--root=none|--zone=UTC' 'check|--utc|--zone=' '--utc|--zone=UTC' \
     'upcoming|--utc|--zone=UTC' 'plan|--utc|--zone=UTC' 'quiet|--utc|--zone=UTC' 'next|daily|--utc|--zone=UTC' 'describe|--utc|--zone=UTC' 'describe|daily|--utc|--zone=UTC' \
-    'downtime|--utc|--zone=UTC' 'clear|--utc|--zone=UTC' 'week|--zone=UTC|--utc'; do
+    'downtime|--utc|--zone=UTC' 'clear|--utc|--zone=UTC' 'changes|before|--utc|--zone=UTC' 'week|--zone=UTC|--utc'; do
     machine_words_tell_usage "$words" <<'END'
 error: the argument '--zone <ZONE>' cannot be used with '--utc'
 
@@ -527,6 +570,20 @@ clear|--nominal=yes => error: unexpected value 'yes' for '--nominal' found; no m
 clear|--planners=x => error: invalid value 'x' for '--planners <N>': invalid digit found in string
 clear|--keep-going => error: unexpected argument '--keep-going' found
 clear|--version => error: unexpected argument '--version' found
+changes => error: the following required arguments were not provided:
+changes|before|--since=x => error: unexpected argument '--since' found
+changes|before|--until=x => error: unexpected argument '--until' found
+changes|before|--delays => error: unexpected argument '--delays' found
+changes|before|--table => error: unexpected argument '--table' found
+changes|before|--text => error: unexpected argument '--text' found
+changes|before|--local => error: unexpected argument '--local' found
+changes|before|--keep-going => error: unexpected argument '--keep-going' found
+changes|before|--event-zones => error: unexpected argument '--event-zones' found
+changes|before|--crontab=a => error: unexpected argument '--crontab' found
+changes|before|--json|--json => error: the argument '--json' cannot be used multiple times
+changes|before|--strict=yes => error: unexpected value 'yes' for '--strict' found; no more were expected
+changes|before|--limit=x => error: invalid value 'x' for '--limit <N>': invalid digit found in string
+changes|before|--version => error: unexpected argument '--version' found
 week|mon => error: unexpected argument 'mon' (for a time, use --since or --until)
 week|--since|mon|sun => error: unexpected argument 'sun' (for a time, use --since or --until)
 week|--until=x|--upto=x => error: the argument '--until <TIME>' cannot be used multiple times

@@ -21,6 +21,7 @@ words_make_files() {
     printf '[Timer]\nOnCalendar=daily\n' >"$work/words/$name"
   done
   printf '[Timer]\nOnCalendar=*-*-* 0/12:00\n' >"$work/words/b.timer"
+  printf 'agenda 2\t2024-01-01T00:00:00Z\t2024-01-02T00:00:00Z\t0\n' >"$work/words/before"
   printf '[Timer]\nOnCalendar=*:*:*\n' >"$work/words/second.timer"
   for name in jobs etc/crontab "my jobs-ä"; do
     printf '@daily root says %s\n' "$name" >"$work/words/$name"
@@ -40,6 +41,7 @@ Commands:
   quiet     Prints the gaps in which no job of crontabs and timers starts
   downtime  Prints what a machine misses while it is down, and what then
   clear     Succeeds if no job of crontabs and timers starts in a span
+  changes   Compares a plan with one that was made before
   week      Shows how many jobs start in each hour of a span
   check     Prints errors and likely mistakes in crontabs and timers
   describe  Says in words when a rule or each job starts
@@ -347,6 +349,54 @@ Example:
 END
 }
 
+words_make_help_of_changes() {
+  cat >"$work/words/changes.text" <<'END'
+Compares a plan with one that was made before
+
+Usage: agenda changes [OPTIONS] <BEFORE> [TIMER]...
+
+Arguments:
+  <BEFORE>    A file with what 'plan' printed, as text
+  [TIMER]...  A systemd timer file, such as backup.timer
+
+Options:
+      --zone <ZONE>         The time zone of the rules, such as Europe/Berlin,
+                            or the path of a TZif file; UTC if it isn't given
+      --event-zones         Read events that end with a time zone, such as
+                            'Mon..Fri 09:00 Europe/Berlin'
+      --keep-going          Skip what is invalid or can't be read, and report it
+      --json                Print each line as a JSON object; agenda(1)
+                            describes the keys
+      --local               Print times in the time zone of --zone, such as
+                            2024-03-31T03:00:00+02:00
+      --crontab <F>         A user's crontab, as 'crontab -l' prints it
+      --system-crontab <F>  A crontab whose lines name a user, such as
+                            /etc/crontab
+      --cron-d <F>          A package's crontab, such as /etc/cron.d/php;
+                            may be given more than once
+      --spool <F>           A user's crontab in the spool directory;
+                            may be given more than once
+      --limit <N>           The maximum number of starts, from 1 to 1000000;
+                            more are an error [default: 10000]
+  -h, --help                Print help
+
+Tuning (the output stays the same):
+      --planners <N>  How many threads search, from 1 to 8 [default: 2]
+      --room <N>      How many messages of each thread may wait,
+                      from 1 to 1024 [default: 16]
+
+Plans the span of the agenda in BEFORE again, and prints a line for each start that is only
+in one of both agendas: '-' for one that is only in BEFORE or '+' for one that is new, the
+time, the job's name and what it runs, separated by tabs. Starts are compared by their time
+and by what they run. The exit status is 0 if nothing changed, otherwise 1.
+
+Example:
+  agenda plan --since 2024-01-01T00:00:00Z --until 2024-01-08T00:00:00Z \
+    --crontab jobs >before
+  agenda changes before --crontab jobs
+END
+}
+
 words_make_help_of_week() {
   cat >"$work/words/week.text" <<'END'
 Shows how many jobs start in each hour of a span
@@ -489,6 +539,7 @@ Commands:
   quiet     Prints the gaps in which no job of a machine starts
   downtime  Prints what a machine misses while it is down, and what then
   clear     Succeeds if no job of a machine starts in a span
+  changes   Compares a machine's plan with one made before
   week      Shows how many jobs of a machine start in each hour
   check     Prints errors and likely mistakes in a machine's crontabs and timers
   sources   Lists a machine's crontabs and timers
@@ -593,6 +644,9 @@ downtime downtime|--since|2024-01-01T00:00:00Z|--limit|0|-h
 clear clear|--help
 clear clear|-h
 clear clear|--nominal|--until|2024-01-01T00:00:00Z|-h
+changes changes|--help
+changes changes|-h
+changes changes|nothing|--zone|Nowhere/City|-h
 week week|--help
 week week|-h
 week week|--zone|Nowhere/City|-h
@@ -623,7 +677,7 @@ words_tell_usage() {
 words_tell_usage_of_agenda() {
   words_tell_usage '' <<'END'
 error: 'agenda' requires a subcommand but one was not provided
-  [subcommands: next, plan, upcoming, quiet, downtime, clear, week, check, describe, machine, steps, explain]
+  [subcommands: next, plan, upcoming, quiet, downtime, clear, changes, week, check, describe, machine, steps, explain]
 
 Usage: agenda <COMMAND>
 
@@ -678,6 +732,14 @@ error: the following required arguments were not provided:
   --since <T>
 
 Usage: agenda clear --since <T> --upto <T> <TIMER>...
+
+For more information, try '--help'.
+END
+  words_tell_usage 'changes' <<'END'
+error: the following required arguments were not provided:
+  <BEFORE>
+
+Usage: agenda changes <BEFORE> [TIMER]...
 
 For more information, try '--help'.
 END
@@ -881,6 +943,37 @@ Clear => error: unrecognized subcommand 'Clear'
 END
 }
 
+# What changes doesn't take: a moment, a span and delays.
+words_begin_usage_of_changes() {
+  words_begin_usage <<'END'
+changes => error: the following required arguments were not provided:\n  <BEFORE>
+changes|--limit=1 => error: the following required arguments were not provided:\n  <BEFORE>
+changes|before|--since=x => error: unexpected argument '--since' found
+changes|before|--upto=x => error: unexpected argument '--upto' found
+changes|before|--until=x => error: unexpected argument '--until' found
+changes|before|--after=x => error: unexpected argument '--after' found
+changes|before|--before=x => error: unexpected argument '--before' found
+changes|before|--least=1 => error: unexpected argument '--least' found
+changes|before|--delays => error: unexpected argument '--delays' found
+changes|before|--nominal => error: unexpected argument '--nominal' found
+changes|before|--table => error: unexpected argument '--table' found
+changes|before|--utc => error: unexpected argument '--utc' found
+changes|before|--except=a => error: unexpected argument '--except' found
+changes|before|--version => error: unexpected argument '--version' found
+changes|before|--planners=x => error: invalid value 'x' for '--planners <N>': invalid digit found in string
+changes|before|--room=-1 => error: invalid value '-1' for '--room <N>': -1 is not in 0..=4294967295
+changes|before|--limit=4294967296 => error: invalid value '4294967296' for '--limit <N>': 4294967296 is not in 0..=4294967295
+changes|before|--limit=1|--limit=1 => error: the argument '--limit <N>' cannot be used multiple times
+changes|before|--zone => error: a value is required for '--zone <ZONE>' but none was supplied
+changes|before|--event-zones|--event-zones => error: the argument '--event-zones' cannot be used multiple times
+changes|before|--keep-going=yes => error: unexpected value 'yes' for '--keep-going' found; no more were expected
+changes|before|--json|--json => error: the argument '--json' cannot be used multiple times
+changes|before|--local=yes => error: unexpected value 'yes' for '--local' found; no more were expected
+changes|before|--crontab=a|--crontab=b => error: the argument '--crontab <F>' cannot be used multiple times
+change => error: unrecognized subcommand 'change'
+END
+}
+
 # What describe doesn't take: a moment, a span, delays, local times, sizes and limits.
 words_begin_usage_of_describe() {
   words_begin_usage <<END
@@ -1014,6 +1107,16 @@ clear|$span|--|--limit => 1 --limit: line 0: BadTimerName
 clear|$span|--|--nominal => 3 --nominal: Device
 clear|$span|--planners=65537 => 1 plan: BadSize
 clear|$span|--room=0 => 1 plan: BadSize
+changes|nothing|--planners=0|--limit=007 => 3 nothing: Device
+changes|--limit=007|--zone|Nowhere/City|nothing|a.timer|a.timer => 3 nothing: Device
+changes|--|--limit => 1 --limit:1: not a line of agenda plan [BadBaseline]
+changes|--|--help.timer => 3 --help.timer: Device
+changes|a.timer|--json|b.timer => 1 a.timer:1: not a line of agenda plan [BadBaseline]
+changes|before|--|--limit => 1 --limit: line 0: BadTimerName
+changes|before|--|--room => 3 --room: Device
+changes|before|--limit=0 => 1 plan: BadLimit
+changes|before|--planners=9|--local => 1 plan: BadSize
+changes|--crontab|jobs|before|--system-crontab|etc/crontab|--planners|3|--room|4|--limit|4|b.timer|a.timer => 1 plan: TooMany
 week|--planners=0|--room=4294967295|--limit=007|--since=x|--until=y => 1 since: BadForm
 week|--since=2024-01-01T00:00:00Z|a|b|--until=|a|--|--limit => 1 upto: BadForm
 week|$span|--|--limit => 1 --limit: line 0: BadTimerName
@@ -1200,6 +1303,18 @@ words_ask_for_clear() {
   words_ask_for_text "clear|--since|2024-01-01T12:01:01Z|--until|2024-01-02T00:00:00Z|--|--limit.timer" </dev/null
 }
 
+# The first word that is neither an option nor the value of one is the earlier agenda, and the others are timers.
+words_ask_for_changes() {
+  local words
+  printf '+\t2024-01-01T%s:00:00Z\tb.timer\tb.service\n' 00 12 >"$work/words/answer"
+  for words in 'before|b.timer' '--limit=2|before|b.timer' '--planners|1|before|--room|1|--|b.timer' '--|before|b.timer' \
+    '--keep-going|before|b.timer|--event-zones'; do
+    words_run "changes|$words"
+    compare "words: changes|$words" "$work/words/answer" /dev/null 1
+  done
+  words_ask_for_text "changes|before" </dev/null
+}
+
 # The words $1 ask for what is wrong with the files, which is that of standard input.
 words_ask_for_findings() {
   cat >"$work/words/answer"
@@ -1259,6 +1374,7 @@ words_make_help_of_upcoming
 words_make_help_of_quiet
 words_make_help_of_downtime
 words_make_help_of_clear
+words_make_help_of_changes
 words_make_help_of_week
 words_make_help_of_check
 words_make_help_of_describe
@@ -1273,6 +1389,7 @@ words_begin_usage_of_agenda_next_steps_and_explain
 words_begin_usage_of_plan
 words_begin_usage_of_upcoming_and_quiet
 words_begin_usage_of_windows
+words_begin_usage_of_changes
 words_begin_usage_of_check
 words_begin_usage_of_describe
 words_ask_for_starts
@@ -1286,6 +1403,7 @@ words_ask_for_until
 words_ask_for_delays
 words_ask_for_downtime_and_week
 words_ask_for_clear
+words_ask_for_changes
 words_ask_for_check
 words_ask_for_sizes
 words_ask_for_limit 10000 ''

@@ -88,6 +88,8 @@ upcoming|--after|2024-01-01T00:00:00Z|--crontab|crontab>1>crontab: line 2: NoCom
 quiet|--since|2024-01-01T00:00:00Z|--upto|2024-01-02T00:00:00Z|--least|0>1>quiet: BadLeast
 downtime|--since|2024-01-01T00:00:00Z|--until|2024-01-02T00:00:00Z|d.timer|--limit|0>1>plan: BadLimit
 clear|--since|2024-01-01T00:00:00Z|--until|2024-01-02T00:00:00Z|--crontab|nothing>3>nothing: Device
+changes|nothing>3>nothing: Device
+changes|script>1>script:1: not a line of agenda plan [BadBaseline]
 week|--since|2024-01-01T00:00:00Z|--until|2024-01-02T00:00:00Z|d.timer|d.timer>1>job d.timer: SameName
 check|d.timer|nothing>3>nothing: Device
 ROWS

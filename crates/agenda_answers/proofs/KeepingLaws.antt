@@ -8,7 +8,7 @@ use Rattle.agenda_sources.specs.declared.TimeZones.{TimeZones}
 use Rattle.agenda_sources.specs.Findings.{kept_jobs, sources_errors}
 use Rattle.agenda_sources.specs.Sources.{jobs_reading}
 use Rattle.agenda_arguments.specs.declared.Ask.{Ask}
-use Rattle.agenda_arguments.specs.declared.Ask.TheVariants.{Next, Plan, Upcoming, Quiet, Check, Describe, DescribeJobs, Steps, Explain, Machine, MachineNext, MachineDescribe}
+use Rattle.agenda_arguments.specs.declared.Ask.TheVariants.{Next, Plan, Upcoming, Quiet, Changes, Check, Describe, DescribeJobs, Steps, Explain, Machine, MachineNext, MachineDescribe}
 use Rattle.agenda_arguments.specs.declared.JobsRequest.{JobsRequest}
 use Rattle.agenda_arguments.specs.declared.ZonesRequest.{ZonesRequest}
 use Rattle.agenda_faults.specs.declared.faults.Failure.{Failure}
@@ -112,7 +112,7 @@ KeepsAll = (zones : TimeZones) → (sources : List Source) → sources_errors zo
     jobs_reading zones sources ≡ Ok (kept_jobs zones sources)
 
 -- the outcome for jobs with these errors
-abbrev outcome_with : Goal → Tried → Result (List ℕ) RunFault → Result (List JobParts) RunFault → List Found → Outcome
+abbrev pub outcome_with : Goal → Tried → Result (List ℕ) RunFault → Result (List JobParts) RunFault → List Found → Outcome
 outcome_with goal tried answer jobs errors = record {
   unread = tried.unread;
   paths = tried.paths;
@@ -161,6 +161,7 @@ times_rejected (Upcoming after jobs) failure (goes moment is same) = absurd cc
 times_rejected (Quiet plan least) failure (stops found (stops first is same) again) = stops found (stops first is same) again
 times_rejected (Quiet plan least) failure (stops found (goes span is same) again) = absurd cc
 times_rejected (Quiet plan least) failure (goes planning is same) = absurd cc
+times_rejected (Changes changes) failure is = absurd cc
 times_rejected (Check zones sources policy json) failure is = is
 times_rejected (Describe rule zones json) failure is = is
 times_rejected (DescribeJobs jobs) failure is = absurd cc

@@ -1,3 +1,4 @@
+pub mod ClearLemmas
 pub mod KeepingLaws
 pub mod MachineLemmas
 pub mod NextLemmas

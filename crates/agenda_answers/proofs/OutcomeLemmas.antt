@@ -55,9 +55,9 @@ settled_parts Answers goal jobs made (Err fault) is (other, same) = (
 
 -- whether it says that a start is found
 pub found_parts :
-    (finds : Bool) (made settled : Result RemarkedAnswer RunFault) → IfOk made (λ all. all.finds_start ≡ finds) →
-    settles made (Ok settled) → (parted settled).1.finds_start ≡ has_found (parted settled).0 finds
-found_parts finds made (Ok all) is same = subst (λ r. IfOk r (λ a. a.finds_start ≡ finds)) same is
+    (finds : Bool) (made settled : Result RemarkedAnswer RunFault) → IfOk made (λ all. all.finds_any ≡ finds) →
+    settles made (Ok settled) → (parted settled).1.finds_any ≡ has_found (parted settled).0 finds
+found_parts finds made (Ok all) is same = subst (λ r. IfOk r (λ a. a.finds_any ≡ finds)) same is
 found_parts finds made (Err fault) is same = refl
 
 pub settled_failure :

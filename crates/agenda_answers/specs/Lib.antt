@@ -1,4 +1,6 @@
 pub mod Answer
+pub mod Changes
+pub mod ClearLaws
 pub mod Formats
 pub mod Host
 pub mod Machine

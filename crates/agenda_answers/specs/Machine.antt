@@ -29,7 +29,7 @@ use Rattle.agenda_commands.specs.Form.{AnswersForm, origin_of}
 use Rattle.agenda_commands.specs.Remark.{remark_of}
 use Rattle.agenda_commands.specs.declared.Form.{Form}
 use Rattle.agenda_commands.specs.declared.Form.TheVariants as form
-use Rattle.agenda_commands.specs.Goal.{finds_start}
+use Rattle.agenda_commands.specs.Goal.{finds_any}
 use Rattle.agenda_commands.specs.declared.Goal.{Goal}
 use Rattle.agenda_commands.specs.declared.Goal.TheVariants as goal
 use Rattle.plan_collect.specs.declared.PlanView.TheVariants as view
@@ -224,6 +224,7 @@ naming_limit limit answer = answer
 abbrev pub in_words : Goal → Result (List ℕ) RunFault → Result (List ℕ) RunFault
 in_words (goal.Plan planning view) answer = naming_limit planning.sizes.limit answer
 in_words (goal.Quiet planning least) answer = naming_limit planning.sizes.limit answer
+in_words (goal.Changes planning before) answer = naming_limit planning.sizes.limit answer
 in_words (goal.Upcoming after delays) answer = answer
 
 -- the answer for jobs, without the errors that are skipped
@@ -257,7 +258,7 @@ answers_said dir machine paths errors form goal kept = do
   remark ← computes
       (remark_with goal (is_ok answer) (said_of answer (remark_of goal kept)) (machine_status machine (is_all_clean errors)))
   gives (
-    outcome_of paths errors (found_status (has_found answer (finds_start goal kept)) (machine_status machine (is_all_clean errors)))
+    outcome_of paths errors (found_status (has_found answer (finds_any goal kept)) (machine_status machine (is_all_clean errors)))
         (in_words goal answer),
     remark,
   )
@@ -283,12 +284,12 @@ shows_jobs_in dir jobs host goal machine unplanned planned clock zones = do
       (kept_in jobs.except zones planned))
   gives (shown_with dir machine unplanned clock.is_unknown rest)
 
--- `upcoming`, `plan` and `quiet`: the zone is read first, then the times, and then the zones of events
+-- `upcoming`, `plan` and the like: the zone is read first, then the times or an earlier agenda, and then the zones of events
 abbrev pub shows_jobs :
     Held → KnownHost → (dir : List ℕ) → MachineJobs → Machine → (unplanned : List NotPlanned) → (planned : List Source) → Step Shown
 shows_jobs held host dir jobs machine unplanned planned = do
   clock ← machine_clock held host.tree (root_of dir) jobs.zone
-  goal ← goal_at host.time clock.clock jobs
+  goal ← goal_at held host.time clock.clock jobs
   zones ← machine_zones held host.tree clock.clock (sources_of machine.sources.items)
   shows_jobs_in dir jobs host goal machine unplanned planned clock zones
 

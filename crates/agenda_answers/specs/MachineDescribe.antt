@@ -1,5 +1,5 @@
 -- What is said in words of a rule that may end with a zone of the machine that the program runs on. All of it is our choice (agenda).
-use Rattle.std.specs.Prelude.{ℕ, Bool, true, List, [], None, Result, Ok, Err}
+use Rattle.std.specs.Prelude.{ℕ, Bool, true, [], None, Result, Ok, Err}
 use Rattle.agenda_commands.specs.Describe.{sentence_output}
 use Rattle.agenda_faults.specs.declared.faults.Failure.{Failure}
 use Rattle.agenda_faults.specs.declared.faults.RunFault.{RunFault}

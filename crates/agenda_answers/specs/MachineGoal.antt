@@ -9,7 +9,7 @@ use Rattle.plan_times.specs.Times.{IsSince, IsUntil}
 use Rattle.plan_times.specs.declared.fault.TimeFault.{TimeFault}
 use Rattle.plan_write.specs.LocalTimes.{local_text}
 use Rattle.agenda_arguments.specs.declared.MachineGoal.{MachineGoal}
-use Rattle.agenda_arguments.specs.declared.MachineGoal.TheVariants.{Upcoming, Plan, Quiet}
+use Rattle.agenda_arguments.specs.declared.MachineGoal.TheVariants.{Upcoming, Plan, Quiet, Changes}
 use Rattle.agenda_arguments.specs.declared.MachineJobs.{MachineJobs}
 use Rattle.agenda_arguments.specs.declared.SpanRequest.{SpanRequest}
 use Rattle.agenda_commands.specs.declared.Goal.{Goal}
@@ -21,8 +21,11 @@ use Rattle.agenda_faults.specs.declared.machine_faults.NumberOption.{NumberOptio
 use Rattle.agenda_faults.specs.declared.machine_faults.NumberOption.TheVariants.{Planners, Room, Limit}
 use Rattle.agenda_faults.specs.declared.machine_faults.TimeOption.{TimeOption}
 use Rattle.agenda_faults.specs.declared.machine_faults.TimeOption.TheVariants as option
+use Rattle.agenda_inputs.specs.Baselines.{baseline_of}
+use Rattle.agenda_inputs.specs.Files.{Held}
 use Rattle.agenda_inputs.specs.MachineZone.{fails_with}
-use Rattle.agenda_inputs.specs.Steps.{Step, fails, gives, ◌>>=◌}
+use Rattle.agenda_answers.specs.Changes.{changes_since}
+use Rattle.agenda_inputs.specs.Steps.{Step, computes, fails, gives, ◌>>=◌}
 
 -- a time of the system clock, if it is in the planner's years
 abbrev pub present_if : (is_in_years : Bool) → (time : ℕ) → Step ℕ
@@ -87,23 +90,27 @@ sizes_in sizes = do
   limit ← number_in Limit sizes.limit
   gives sizes
 
--- what is made of jobs
-abbrev pub goal_by : (now : ℕ) → (clock : List Change) → (delays : Bool) → MachineGoal → Step Goal
-goal_by now clock delays (Upcoming after) = do
+-- what is made of jobs; an earlier agenda is read from its file
+abbrev pub goal_by : Held → (now : ℕ) → (clock : List Change) → (delays : Bool) → MachineGoal → Step Goal
+goal_by held now clock delays (Upcoming after) = do
   moment ← since_at option.After now clock after
   gives (goal.Upcoming moment delays)
-goal_by now clock delays (Plan span sizes view) = do
+goal_by held now clock delays (Plan span sizes view) = do
   bounds ← span_at now clock span
   valid ← sizes_in sizes
   gives (goal.Plan (record { span = bounds; sizes = valid; delays = delays }) view)
-goal_by now clock delays (Quiet span sizes least) = do
+goal_by held now clock delays (Quiet span sizes least) = do
   bounds ← span_at now clock span
   seconds ← least_of least (length_of least)
   valid ← sizes_in sizes
   gives (goal.Quiet (record { span = bounds; sizes = valid; delays = delays }) seconds)
+goal_by held now clock delays (Changes before sizes) = do
+  listing ← baseline_of held before
+  valid ← sizes_in sizes
+  computes (changes_since listing valid delays)
 
 -- the same, as it is asked, at the time that the system clock shows
-abbrev pub goal_at : (time : ℕ) → (clock : List Change) → MachineJobs → Step Goal
-goal_at time clock jobs = do
+abbrev pub goal_at : Held → (time : ℕ) → (clock : List Change) → MachineJobs → Step Goal
+goal_at held time clock jobs = do
   now ← present time
-  goal_by now clock jobs.delays jobs.goal
+  goal_by held now clock jobs.delays jobs.goal

@@ -45,15 +45,15 @@ skipped_status (path ∷ more) errors = failed_status
 
 -- an answer and what is said about it; nothing is said about an error
 abbrev pub parted : Result RemarkedAnswer RunFault → Result (List ℕ) RunFault × Said
-parted (Ok made) = (Ok made.answer, record { remark = made.remark; finds_start = made.finds_start })
-parted (Err fault) = (Err fault, record { remark = None; finds_start = false })
+parted (Ok made) = (Ok made.answer, record { remark = made.remark; finds_any = made.finds_any })
+parted (Err fault) = (Err fault, record { remark = None; finds_any = false })
 
--- whether an answer says that a job may start in the span; an error doesn't
+-- whether an answer says that a job may start in the span, or that something changed; an error doesn't
 abbrev pub has_found : Result (List ℕ) RunFault → (finds : Bool) → Bool
 has_found (Ok text) finds = finds
 has_found (Err fault) finds = false
 
--- the exit status of an answer, by that without it: a span isn't clear if a job may start in it
+-- the exit status of an answer, by that without it: 1 if a job may start in a span that was to be clear, or if something changed
 abbrev pub found_status : (finds : Bool) → (status : ℕ) → ℕ
 found_status finds status = if finds && (status == done_status) then rejected_status else status
 

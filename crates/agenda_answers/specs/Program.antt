@@ -10,11 +10,12 @@ use Rattle.agenda_faults.specs.declared.faults.RunFault.TheVariants.{NoMemory}
 use Rattle.agenda_sources.specs.declared.SourcePath.{SourcePath}
 use Rattle.agenda_commands.specs.declared.Goal.{Goal}
 use Rattle.agenda_answers.specs.declared.requests.Request.{Request}
-use Rattle.agenda_answers.specs.declared.requests.Request.TheVariants.{Starts, Jobs, Check, Describe, DescribeJobs, Steps, Explain, Machine, MachineNext, MachineDescribe}
+use Rattle.agenda_answers.specs.declared.requests.Request.TheVariants.{Starts, Jobs, Changes, Check, Describe, DescribeJobs, Steps, Explain, Machine, MachineNext, MachineDescribe}
 use Rattle.agenda_answers.specs.Answer.{Exits, Leaves, Printed, StreamChange, check_ends, explain_ends, next_ends, steps_ends, usage_ends}
 use Rattle.agenda_inputs.specs.Files.{Held}
 use Rattle.agenda_answers.specs.Host.{KnownHost}
 use Rattle.agenda_answers.specs.Machine.{AnswersMachine}
+use Rattle.agenda_answers.specs.Changes.{AnswersChanges}
 use Rattle.agenda_answers.specs.Describe.{AnswersDescriptions, describe_ends}
 use Rattle.agenda_answers.specs.MachineDescribe.{AnswersRule}
 use Rattle.agenda_answers.specs.MachineNext.{AnswersNext}
@@ -35,6 +36,7 @@ AnswersBy step sources status out err =
 abbrev pub AnswersRequest : Held → KnownHost → Request → Answering
 AnswersRequest held host (Starts starts) = AnswersBy (next_ends held starts) []
 AnswersRequest held host (Jobs goal jobs) = AnswersJobs held goal jobs
+AnswersRequest held host (Changes changes) = AnswersChanges held changes
 AnswersRequest held host (Check zones sources policy json) = AnswersBy (check_ends held zones sources policy json) sources
 AnswersRequest held host (Describe rule zones json) = AnswersBy (describe_ends held rule zones json) []
 AnswersRequest held host (DescribeJobs jobs) = AnswersDescriptions held jobs

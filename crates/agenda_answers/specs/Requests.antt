@@ -6,7 +6,7 @@ use Rattle.plan_sets.specs.declared.MomentFault.{MomentFault}
 use Rattle.plan_collect.specs.Span.{Bounds}
 use Rattle.plan_collect.specs.declared.SpanFault.TheVariants.{Backwards}
 use Rattle.agenda_arguments.specs.declared.Ask.{Ask}
-use Rattle.agenda_arguments.specs.declared.Ask.TheVariants.{Next, Plan, Upcoming, Quiet, Check, Describe, DescribeJobs, Steps, Explain, Machine, MachineNext, MachineDescribe}
+use Rattle.agenda_arguments.specs.declared.Ask.TheVariants.{Next, Plan, Upcoming, Quiet, Changes, Check, Describe, DescribeJobs, Steps, Explain, Machine, MachineNext, MachineDescribe}
 use Rattle.agenda_arguments.specs.declared.JobsRequest.{JobsRequest}
 use Rattle.agenda_arguments.specs.declared.PlanRequest.{PlanRequest}
 use Rattle.agenda_faults.specs.declared.faults.Failure.TheVariants.{Moment, Span}
@@ -61,6 +61,7 @@ request_of (Upcoming after jobs) = do
 request_of (Quiet plan least) = do
   planning ← planning_of plan
   gives (request.Jobs (goal.Quiet planning least) plan.jobs)
+request_of (Changes changes) = gives (request.Changes changes)
 request_of (Check zones sources policy json) = gives (request.Check zones sources policy json)
 request_of (Describe rule zones json) = gives (request.Describe rule zones json)
 request_of (DescribeJobs jobs) = gives (request.DescribeJobs jobs)
@@ -79,5 +80,6 @@ abbrev pub stopping : Ask → Ask
 stopping (Plan plan view) = Plan (record plan { jobs = stopping_jobs plan.jobs }) view
 stopping (Upcoming after jobs) = Upcoming after (stopping_jobs jobs)
 stopping (Quiet plan least) = Quiet (record plan { jobs = stopping_jobs plan.jobs }) least
+stopping (Changes changes) = Changes (record changes { jobs = stopping_jobs changes.jobs })
 stopping (DescribeJobs jobs) = DescribeJobs (stopping_jobs jobs)
 stopping other = other

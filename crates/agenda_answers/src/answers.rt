@@ -5,6 +5,7 @@ ghost use Rattle.agenda_answers.specs.Answer.{Exits, Leaves, SaysNotUtf8, check_
 ghost use Rattle.agenda_answers.specs.Host.{host_of};
 ghost use Rattle.agenda_answers.specs.Program.{Answers, AnswersArguments, AnswersAsk, AnswersRequest};
 
+use crate::changes::answer_changes;
 use crate::describe::{answer_descriptions, describe};
 use crate::formats::{UTC, make_format};
 use crate::host::Host;
@@ -121,6 +122,7 @@ fn answer_request<R: Threads + Wait + Sync, F: Files, T: Complete, O: Stream, E:
     match request {
         Request::Starts(starts) => end(next(alloc, starts, files, out), &[], err),
         Request::Jobs { goal, jobs } => answer_jobs(rt, alloc, goal, jobs, files, out, err),
+        Request::Changes(changes) => answer_changes(rt, alloc, changes, files, out, err),
         Request::Check {
             zones,
             sources,

@@ -64,9 +64,9 @@ impl Model for Outcome {
 
 /// Answers a request for jobs, and returns the exit status.
 ///
-/// The status is 3 if a file is skipped, 1 if an error is skipped or if a first entry is asked for and there is one, and 0
-/// otherwise. If there is no answer, it is that of
-/// the error. If standard error fails, it is 3, and nothing is written to standard output.
+/// The status is 3 if a file is skipped, 1 if an error is skipped, if a first entry is asked for and there is one, or if
+/// something changed, and 0 otherwise. If there is no answer, it is that of the error. If standard error fails, it is 3,
+/// and nothing is written to standard output.
 pub(crate) fn answer_jobs<R: Threads + Wait + Sync, F: Files, O: Stream, E: Stream>(
     rt: &R,
     alloc: Global,
@@ -106,7 +106,7 @@ fn make_outcome<R: Threads + Wait + Sync, F: Files>(
     let made = settled(made)?;
     let (answer, said) = parted(made);
     let status = skipped_status(tried.unread.as_slice(), errors.as_slice());
-    let status = found_status(said.finds_start, status);
+    let status = found_status(said.finds_any, status);
     Ok(Outcome {
         unread: tried.unread,
         paths: tried.paths,
@@ -136,8 +136,8 @@ pub(crate) fn settled<A>(made: Result<A, RunFault>) -> Result<Result<A, RunFault
 pub(crate) struct Said {
     // A line for people, if there is something to say.
     pub(crate) remark: Option<Text>,
-    // Whether the answer is the first entry of an agenda: then a job may start in the span.
-    pub(crate) finds_start: bool,
+    // Whether the answer has a start in a span that was to be clear, or a change.
+    pub(crate) finds_any: bool,
 }
 
 // Returns an answer and what is said about it. Nothing is said about an error.
@@ -150,25 +150,26 @@ pub(crate) fn parted(
         Ok(made) => {
             let said = Said {
                 remark: made.remark,
-                finds_start: made.finds_start,
+                finds_any: made.finds_any,
             };
             (Ok(made.answer), said)
         }
         Err(fault) => {
             let said = Said {
                 remark: None,
-                finds_start: false,
+                finds_any: false,
             };
             (Err(fault), said)
         }
     }
 }
 
-// Returns the exit status of an answer, by that without it: a start that is found is none of a clear span.
-pub(crate) fn found_status(finds_start: bool, status: u8) -> u8
-    ensures { result ≡ found_status finds_start status }
+// Returns the exit status of an answer, by that without it: 1 if a start is found in a span that was to be clear, or a
+// change.
+pub(crate) fn found_status(finds_any: bool, status: u8) -> u8
+    ensures { result ≡ found_status finds_any status }
 {
-    if finds_start && status == DONE {
+    if finds_any && status == DONE {
         REJECTED
     } else {
         status

@@ -5,10 +5,12 @@
 #![tactic(auto)]
 
 mod answers;
+mod changes;
 mod describe;
 mod formats;
 mod host;
 mod jobs;
+mod laws;
 mod machine;
 mod machine_answer;
 mod machine_describe;
@@ -20,3 +22,4 @@ pub use agenda_table::Frame;
 pub use answers::{answer, answer_arguments, unread_arguments};
 pub use host::{Host, columns_of};
 pub use jobs::keeping_going_changes_nothing;
+pub use laws::{clear_is_safe, machine_clear_is_safe};

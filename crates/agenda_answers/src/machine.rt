@@ -256,7 +256,7 @@ fn jobs_answer<'a, R: Threads + Wait + Sync, F: Files, T: Tree>(
         planned: loads,
     } = loaded;
     let clock = machine_clock(alloc, files, host.tree, root_of(dir), &jobs.zone)?;
-    let goal = goal_at(alloc, host.time, &clock.clock, jobs)?;
+    let goal = goal_at(alloc, files, host.time, &clock.clock, jobs)?;
     let sources = sources_of(alloc, machine.sources.as_slice())?;
     let zones = machine_zones(alloc, files, host.tree, clock.clock, &sources)?;
     let unnamed = unnamed_zone(clock.is_of_file);
@@ -314,7 +314,7 @@ fn planned<R: Threads + Wait + Sync>(
     let remark = remark_of(alloc, goal, answer.is_ok(), said.remark, status)?;
     let outcome = Outcome {
         unread: SourcePaths::new(alloc),
-        status: found_status(said.finds_start, status),
+        status: found_status(said.finds_any, status),
         paths: skipped.paths,
         errors: skipped.errors,
         answer: in_words(answer, goal),
@@ -374,6 +374,7 @@ fn in_words(
     match goal {
         Goal::Plan { planning, .. } => naming_limit(answer, planning.sizes.limit),
         Goal::Quiet { planning, .. } => naming_limit(answer, planning.sizes.limit),
+        Goal::Changes { planning, .. } => naming_limit(answer, planning.sizes.limit),
         Goal::Upcoming { .. } => answer,
     }
 }

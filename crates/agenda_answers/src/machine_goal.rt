@@ -5,10 +5,11 @@ ghost use Rattle.plan_sets.specs.Limits.{end_second};
 ghost use Rattle.plan_times.specs.Forms.{length_of};
 ghost use Rattle.agenda_answers.specs.MachineGoal.{after_at, goal_at, least_of, number_in, present, since_at, sizes_in, span_at, until_at};
 
+use crate::changes::changes_since;
 use agenda_arguments::{MachineGoal, MachineJobs, SpanRequest};
 use agenda_commands::{Goal, Planning};
 use agenda_faults::{Failure, MachineFault, NumberOption, TimeOption};
-use agenda_inputs::copy_of;
+use agenda_inputs::{Files, copy_of, read_baseline};
 use plan_clock::Clock;
 use plan_collect::{Sizes, Span};
 use plan_rules::Text;
@@ -22,16 +23,18 @@ use std::alloc::Global;
 ///
 /// # Errors
 ///
-/// `Machine(Clock)` if the time is after the planner's years. Else `Machine(Time)` if a text isn't a time, then
+/// `Machine(Clock)` if the time is after the planner's years. Else those of `read_baseline`, or `Machine(Time)` if a text isn't a time, then
 /// `Machine(Backwards)` if a span ends before its start, then `Machine(Length)` if a text isn't a length, and then
 /// `Machine(Number)` if a size of a plan is out of its range.
-pub(crate) fn goal_at(
+pub(crate) fn goal_at<F: Files>(
     alloc: Global,
+    files: &mut F,
     time: u64,
     clock: &Clock,
     jobs: &MachineJobs,
 ) -> Result<Goal, Failure>
-    ensures { goal_at time clock.now jobs.now result }
+    ensures read { goal_at (F.held files.old) time clock.now jobs.now result }
+    ensures same { F.held files.new ≡ F.held files.old }
 {
     let now = present(time)?;
     let delays = jobs.delays;
@@ -61,6 +64,12 @@ pub(crate) fn goal_at(
                 delays,
             };
             Ok(Goal::Quiet { planning, least })
+        }
+        MachineGoal::Changes { before, sizes } => {
+            let before = read_baseline(alloc, files, before.as_str())?;
+            let sizes = sizes_in(*sizes)?;
+            let goal = changes_since(alloc, before, sizes, delays)?;
+            Ok(goal)
         }
     }
 }

@@ -5,8 +5,8 @@ ghost use Rattle.agenda_answers.specs.Requests.{moment_of, planning_of, request_
 ghost use Rattle.agenda_arguments.specs.declared.Ask.TheVariants.{Next, Plan, Quiet, Upcoming};
 
 use agenda_arguments::{
-    Ask, FormatRequest, JobsRequest, MachineNext, MachineRequest, NextRequest, PlanRequest,
-    ZonesRequest,
+    Ask, ChangesRequest, FormatRequest, JobsRequest, MachineNext, MachineRequest, NextRequest,
+    PlanRequest, ZonesRequest,
 };
 use agenda_codes::Code;
 use agenda_commands::{Goal, Planning};
@@ -44,6 +44,8 @@ pub(crate) enum Request {
         /// The jobs.
         jobs: JobsRequest,
     },
+    /// Print how the agenda of jobs differs from an earlier one.
+    Changes(ChangesRequest),
     /// Print what is wrong with crontabs and timers.
     Check {
         /// The time zones of the rules.
@@ -99,6 +101,7 @@ pub(crate) fn request_of(ask: Ask) -> Result<Request, Failure>
         Ask::Plan { plan, view } => plan_request(plan, view),
         Ask::Upcoming { after, jobs } => upcoming_request(&after, jobs),
         Ask::Quiet { plan, least } => quiet_request(plan, least),
+        Ask::Changes(request) => Ok(Request::Changes(request)),
         Ask::Check {
             zones,
             sources,

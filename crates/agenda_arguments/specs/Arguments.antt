@@ -13,7 +13,7 @@ use Rattle.clap.specs.declared.error.kind.ErrorKind.TheVariants.{DisplayHelp, Di
 use Rattle.plan_texts.specs.Steps.{◌>>=◌}
 use Rattle.plan_collect.specs.declared.Sizes.{Sizes}
 use Rattle.agenda_arguments.specs.declared.ask.Ask.{Ask}
-use Rattle.agenda_arguments.specs.declared.ask.Ask.TheVariants.{Next, Plan, Upcoming, Quiet, Check, Describe, DescribeJobs, Steps, Explain, Machine, MachineNext, MachineDescribe}
+use Rattle.agenda_arguments.specs.declared.ask.Ask.TheVariants.{Next, Plan, Upcoming, Quiet, Changes, Check, Describe, DescribeJobs, Steps, Explain, Machine, MachineNext, MachineDescribe}
 use Rattle.agenda_codes.specs.declared.Code.{Code}
 use Rattle.agenda_codes.specs.Codes.{code_named}
 use Rattle.agenda_policy.specs.declared.Policy.{Policy}
@@ -191,6 +191,13 @@ asked_by_clear rows = do
     sizes = sizes;
   }) view.First)
 
+-- what `changes` requests, by its values (agenda)
+abbrev pub asked_by_changes : List Row → Result Ask ArgumentsFault
+asked_by_changes rows = do
+  before ← wanted (first_of (codes "before") rows)
+  sizes ← sizes_in rows
+  Ok (Changes (record { before = before; jobs = jobs_in rows; sizes = sizes }))
+
 -- a policy, or a usage error (agenda)
 abbrev pub policy_or_usage : ValueReading Policy → Result Policy ArgumentsFault
 policy_or_usage (Ok policy) = Ok policy
@@ -253,11 +260,12 @@ asked_by_subcommand (Some met) =
     else (if bytes_eq met.0 (codes "quiet") then asked_by_quiet met.1
     else (if bytes_eq met.0 (codes "downtime") then asked_by_downtime met.1
     else (if bytes_eq met.0 (codes "clear") then asked_by_clear met.1
+    else (if bytes_eq met.0 (codes "changes") then asked_by_changes met.1
     else (if bytes_eq met.0 (codes "week") then asked_by_week met.1
     else (if bytes_eq met.0 (codes "check") then asked_by_check met.1
     else (if bytes_eq met.0 (codes "describe") then asked_by_describe met.1
     else (if bytes_eq met.0 (codes "steps") then asked_by_steps met.1
-    else (if bytes_eq met.0 (codes "explain") then asked_by_explain met.1 else Err is_usage))))))))))
+    else (if bytes_eq met.0 (codes "explain") then asked_by_explain met.1 else Err is_usage)))))))))))
 
 -- the time zone of a question about a machine, which is optional: UTC with `--utc`, but not together with `--zone` (agenda)
 abbrev pub machine_zone : Option (List ℕ) → (utc : Bool) → Result (Option (List ℕ)) ArgumentsFault
@@ -294,10 +302,11 @@ table_in false true false = Ok table_request.Never
 table_in false false true = Ok table_request.Never
 table_in table text json = Err is_usage
 
--- whether the answer for a goal is a table, by the values: the hours of a week and a first start have none (agenda)
+-- whether the answer for a goal is a table, by the values: the hours of a week, a first start and changes have none (agenda)
 abbrev pub table_for : MachineGoal → List Row → Result TableRequest ArgumentsFault
 table_for (machine_goal.Plan span sizes view.Week) rows = Ok table_request.Never
 table_for (machine_goal.Plan span sizes view.First) rows = Ok table_request.Never
+table_for (machine_goal.Changes before sizes) rows = Ok table_request.Never
 table_for goal rows =
     table_in (is_given (codes "table") rows) (is_given (codes "text") rows) (is_given (codes "json") rows)
 
@@ -358,6 +367,13 @@ asked_by_machine_clear rows = do
   sizes ← search_sizes_in rows
   asked_of_jobs rows (not (is_given (codes "nominal") rows)) (machine_goal.Plan span sizes view.First)
 
+-- what `machine changes` requests, by its values: delays don't count (agenda)
+abbrev pub asked_by_machine_changes : List Row → Result Ask ArgumentsFault
+asked_by_machine_changes rows = do
+  before ← wanted (first_of (codes "before") rows)
+  sizes ← sizes_in rows
+  asked_of_jobs rows false (machine_goal.Changes before sizes)
+
 -- what `machine week` requests, by its values: delays don't count (agenda)
 abbrev pub asked_by_machine_week : List Row → Result Ask ArgumentsFault
 asked_by_machine_week rows = do
@@ -408,11 +424,12 @@ asked_by_question (Some met) =
     else (if bytes_eq met.0 (codes "quiet") then asked_by_machine_quiet met.1
     else (if bytes_eq met.0 (codes "downtime") then asked_by_machine_downtime met.1
     else (if bytes_eq met.0 (codes "clear") then asked_by_machine_clear met.1
+    else (if bytes_eq met.0 (codes "changes") then asked_by_machine_changes met.1
     else (if bytes_eq met.0 (codes "week") then asked_by_machine_week met.1
     else (if bytes_eq met.0 (codes "check") then asked_by_machine_check met.1
     else (if bytes_eq met.0 (codes "sources") then asked_by_machine_sources met.1
     else (if bytes_eq met.0 (codes "next") then asked_by_machine_next met.1
-    else (if bytes_eq met.0 (codes "describe") then asked_by_machine_describe met.1 else Err is_usage)))))))))
+    else (if bytes_eq met.0 (codes "describe") then asked_by_machine_describe met.1 else Err is_usage))))))))))
 
 -- how an error of clap is answered: help and the version are printed, and all other errors are usage errors (agenda)
 abbrev pub fault_of_kind : ErrorKind → ArgumentsFault

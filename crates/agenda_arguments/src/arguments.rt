@@ -2,13 +2,14 @@
 ghost use Rattle.std.specs.Prelude.{◌≡◌, Err, IfOk, codes, map, string_bytes};
 ghost use Rattle.clap.specs.Words.{first_of, found_of, kind_of, rows_of, subcommand_rows_of};
 ghost use Rattle.agenda_arguments.specs.Arguments.ArgumentsFault.{is_usage};
-ghost use Rattle.agenda_arguments.specs.Arguments.{Follows, Gives, IsAnswerTo, are_of_machine, asked_by, asked_by_agenda, asked_by_check, asked_by_clear};
+ghost use Rattle.agenda_arguments.specs.Arguments.{Follows, Gives, IsAnswerTo, are_of_machine, asked_by, asked_by_agenda, asked_by_changes, asked_by_check, asked_by_clear};
 ghost use Rattle.agenda_arguments.specs.Arguments.{asked_by_describe, asked_by_downtime, asked_by_explain, asked_by_rule, asked_by_next, asked_by_plan, asked_by_quiet, asked_by_steps};
 ghost use Rattle.agenda_arguments.specs.Arguments.{asked_by_subcommand, asked_by_upcoming, asked_by_week, format_in, jobs_in, one_rule, plan_in};
 ghost use Rattle.agenda_arguments.specs.Arguments.{search_sizes_in, sizes_in, zones_in};
 
 use crate::ask::{
-    Ask, FormatRequest, JobsRequest, NextRequest, PlanRequest, UsageFault, ZonesRequest,
+    Ask, ChangesRequest, FormatRequest, JobsRequest, NextRequest, PlanRequest, UsageFault,
+    ZonesRequest,
 };
 use crate::codes::{code_of, policy_of};
 use crate::machine::asked_about_machine;
@@ -82,6 +83,7 @@ fn asked_by_subcommand(alloc: Global, matches: &ArgMatches<'_>) -> Result<Ask, U
         "quiet" => asked_by_quiet(alloc, given),
         "downtime" => asked_by_downtime(alloc, given),
         "clear" => asked_by_clear(alloc, given),
+        "changes" => asked_by_changes(alloc, given),
         "week" => asked_by_week(alloc, given),
         "check" => asked_by_check(alloc, given),
         "describe" => asked_by_describe(alloc, given),
@@ -193,6 +195,19 @@ fn asked_by_clear(alloc: Global, given: &ArgMatches<'_>) -> Result<Ask, UsageFau
     };
     let view = PlanView::First;
     Ok(Ask::Plan { plan, view })
+}
+
+fn asked_by_changes(alloc: Global, given: &ArgMatches<'_>) -> Result<Ask, UsageFault>
+    ensures { Follows result (asked_by_changes (rows_of (found_of given.now))) }
+{
+    let before = text_of(alloc, given, "before")?;
+    let sizes = sizes_of(alloc, given)?;
+    let jobs = jobs_of(alloc, given)?;
+    Ok(Ask::Changes(ChangesRequest {
+        before,
+        jobs,
+        sizes,
+    }))
 }
 
 // Returns what a plan is made from.

@@ -58,6 +58,17 @@ pub struct PlanRequest {
     pub sizes: Sizes,
 }
 
+/// What an earlier agenda is compared with.
+#[derive(Debug, Drop)]
+pub struct ChangesRequest {
+    /// The path of the earlier agenda.
+    pub before: Text,
+    /// The jobs.
+    pub jobs: JobsRequest,
+    /// The number of planners, the capacity of each one's ring, and the maximum number of starts.
+    pub sizes: Sizes,
+}
+
 /// What next starts are listed of.
 #[derive(Debug, Drop)]
 pub struct NextRequest {
@@ -107,6 +118,13 @@ pub enum MachineGoal {
         sizes: Sizes,
         /// The text of the minimum length of a gap.
         least: Text,
+    },
+    /// The differences from an earlier agenda.
+    Changes {
+        /// The path of the earlier agenda.
+        before: Text,
+        /// The sizes of the plan that it is compared with.
+        sizes: Sizes,
     },
 }
 
@@ -249,6 +267,8 @@ pub enum Ask {
         /// The minimum length of a gap, in seconds.
         least: u32,
     },
+    /// Print how the agenda of the jobs of crontabs and timers differs from an earlier one.
+    Changes(ChangesRequest),
     /// Print what is wrong with crontabs and timers.
     Check {
         /// The time zones of the rules.

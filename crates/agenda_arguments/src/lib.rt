@@ -17,8 +17,8 @@ mod values;
 
 pub use arguments::read_words;
 pub use ask::{
-    Ask, FormatRequest, JobsRequest, MachineCheck, MachineDescribe, MachineGoal, MachineJobs,
-    MachineNext, MachineQuestion, MachineRequest, NextRequest, PlanRequest, SpanRequest,
-    TableRequest, UsageFault, ZonesRequest,
+    Ask, ChangesRequest, FormatRequest, JobsRequest, MachineCheck, MachineDescribe, MachineGoal,
+    MachineJobs, MachineNext, MachineQuestion, MachineRequest, NextRequest, PlanRequest,
+    SpanRequest, TableRequest, UsageFault, ZonesRequest,
 };
 pub use names::JobNames;

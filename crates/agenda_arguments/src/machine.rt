@@ -2,7 +2,7 @@
 ghost use Rattle.std.specs.Prelude.{◌≡◌, ◌++◌, ◌∷◌, IfOk, OnOk, codes, drop, map, string_bytes};
 ghost use Rattle.clap.specs.Words.{first_of, found_of, rows_of, subcommand_rows_of};
 ghost use Rattle.agenda_arguments.specs.Arguments.{Follows, Gives, asked_about_machine, asked_by_machine, asked_by_machine_check, asked_by_machine_clear, asked_by_machine_describe, asked_by_machine_downtime};
-ghost use Rattle.agenda_arguments.specs.Arguments.{asked_by_machine_next, asked_by_machine_plan, asked_by_machine_week};
+ghost use Rattle.agenda_arguments.specs.Arguments.{asked_by_machine_changes, asked_by_machine_next, asked_by_machine_plan, asked_by_machine_week};
 ghost use Rattle.agenda_arguments.specs.Arguments.{asked_by_machine_quiet, asked_by_machine_sources, asked_by_machine_upcoming};
 ghost use Rattle.agenda_arguments.specs.Arguments.{asked_by_question, asked_of_jobs, asked_of_machine, is_given, is_option};
 ghost use Rattle.agenda_arguments.specs.Arguments.{lacks_question, machine_format_in, machine_zone, span_in, table_for, table_in, with_question, zone_in};
@@ -138,6 +138,7 @@ fn asked_by_question(alloc: Global, matches: &ArgMatches<'_>) -> Result<Ask, Usa
         "quiet" => asked_by_machine_quiet(alloc, given),
         "downtime" => asked_by_machine_downtime(alloc, given),
         "clear" => asked_by_machine_clear(alloc, given),
+        "changes" => asked_by_machine_changes(alloc, given),
         "week" => asked_by_machine_week(alloc, given),
         "check" => asked_by_machine_check(alloc, given),
         "sources" => asked_by_machine_sources(alloc, given),
@@ -229,6 +230,15 @@ fn asked_by_machine_clear(alloc: Global, given: &ArgMatches<'_>) -> Result<Ask, 
 }
 
 // Delays don't count.
+fn asked_by_machine_changes(alloc: Global, given: &ArgMatches<'_>) -> Result<Ask, UsageFault>
+    ensures { Follows result (asked_by_machine_changes (rows_of (found_of given.now))) }
+{
+    let before = text_of(alloc, given, "before")?;
+    let sizes = sizes_of(alloc, given)?;
+    asked_of_jobs(alloc, given, false, MachineGoal::Changes { before, sizes })
+}
+
+// Delays don't count.
 fn asked_by_machine_week(alloc: Global, given: &ArgMatches<'_>) -> Result<Ask, UsageFault>
     ensures { Follows result (asked_by_machine_week (rows_of (found_of given.now))) }
 {
@@ -314,7 +324,7 @@ fn asked_of_jobs(
     asked_of_machine(alloc, given, MachineQuestion::Jobs(jobs))
 }
 
-// Returns whether the answer for a goal is a table. The hours of a week and a first start have none.
+// Returns whether the answer for a goal is a table. The hours of a week, a first start and changes have none.
 fn table_for(
     alloc: Global,
     given: &ArgMatches<'_>,
@@ -331,6 +341,7 @@ fn table_for(
             view: PlanView::First,
             ..
         } => Ok(TableRequest::Never),
+        MachineGoal::Changes { .. } => Ok(TableRequest::Never),
         _ => table_of(alloc, given),
     }
 }

@@ -2,7 +2,7 @@
 use Rattle.std.specs.Prelude.{ℕ, List, [], ◌∷◌, find, Option, codes}
 use Rattle.std.specs.Str.{str_eq_ignore_ascii_case}
 use Rattle.agenda_codes.specs.declared.code.Code.{Code}
-use Rattle.agenda_codes.specs.declared.code.Code.TheVariants.{Backwards, BadBoolean, BadCount, BadDelay, BadForm, BadLeast, BadLength, BadLimit, BadLine}
+use Rattle.agenda_codes.specs.declared.code.Code.TheVariants.{Backwards, BadBaseline, BadBoolean, BadCount, BadDelay, BadForm, BadLeast, BadLength, BadLimit, BadLine}
 use Rattle.agenda_codes.specs.declared.code.Code.TheVariants.{BadName, BadNumber, BadSetting, BadSize, BadTabName, BadTime, BadTimerName, BadZone}
 use Rattle.agenda_codes.specs.declared.code.Code.TheVariants.{BadZoneName, CarriageReturn, Delayed, Device, EitherDay, Fraction}
 use Rattle.agenda_codes.specs.declared.code.Code.TheVariants.{Full, Monotonic, NeverStarts, NoCommand, NoEvents, NoMemory}
@@ -12,7 +12,7 @@ use Rattle.agenda_codes.specs.declared.code.Code.TheVariants.{TooLarge, TooMany,
 use Rattle.agenda_codes.specs.declared.code.Code.TheVariants.{UnknownWord, WrongParts, ZeroStep, Zone, ZoneSetting}
 use Rattle.agenda_codes.specs.declared.code.Code.TheVariants.{CronDiffers, CronIgnores, LineEnd, MayStop, Merged, NoUser, RangeFromEnd, SystemdRejects, TimerRejected, UnitIgnored}
 use Rattle.agenda_codes.specs.declared.texts.sentences.TheConstants as sentence
-use Rattle.agenda_codes.specs.declared.texts.requests.TheConstants.{BAD_COUNT, BAD_FORM, BAD_LEAST, BAD_LENGTH, BAD_LIMIT, BAD_SIZE, BAD_TIME, BAD_ZONE}
+use Rattle.agenda_codes.specs.declared.texts.requests.TheConstants.{BAD_BASELINE, BAD_COUNT, BAD_FORM, BAD_LEAST, BAD_LENGTH, BAD_LIMIT, BAD_SIZE, BAD_TIME, BAD_ZONE}
 use Rattle.agenda_codes.specs.declared.texts.requests.TheConstants.{BAD_ZONE_NAME, DEVICE, NO_MEMORY, NO_SUCH_DATE, NO_SUCH_ZONE}
 use Rattle.agenda_codes.specs.declared.texts.requests.TheConstants.{NOT_SETTLED, OUT_OF_YEARS, TOO_MANY}
 use Rattle.agenda_codes.specs.declared.texts.rules.TheConstants.{BACKWARDS, BAD_NAME, BAD_NUMBER, FRACTION, OUT_OF_RANGE, SPECIFIER}
@@ -26,7 +26,7 @@ use Rattle.agenda_codes.specs.declared.texts.warnings.TheConstants.{CRON_DIFFERS
 
 -- all codes, in the order of their names
 unfoldable pub all_codes : List Code
-all_codes = Backwards ∷ BadBoolean ∷ BadCount ∷ BadDelay ∷ BadForm ∷ BadLeast ∷ BadLength ∷ BadLimit ∷ BadLine ∷ BadName
+all_codes = Backwards ∷ BadBaseline ∷ BadBoolean ∷ BadCount ∷ BadDelay ∷ BadForm ∷ BadLeast ∷ BadLength ∷ BadLimit ∷ BadLine ∷ BadName
     ∷ BadNumber ∷ BadSetting ∷ BadSize ∷ BadTabName ∷ BadTime ∷ BadTimerName ∷ BadZone ∷ BadZoneName ∷ CarriageReturn
     ∷ CronDiffers ∷ CronIgnores ∷ Delayed ∷ Device ∷ EitherDay ∷ Fraction ∷ Full ∷ LineEnd ∷ MayStop ∷ Merged
     ∷ Monotonic ∷ NeverStarts ∷ NoCommand ∷ NoEvents ∷ NoMemory ∷ NoSuchDate ∷ NoSuchZone ∷ NoTimerSection ∷ NoUser
@@ -37,6 +37,7 @@ all_codes = Backwards ∷ BadBoolean ∷ BadCount ∷ BadDelay ∷ BadForm ∷ B
 -- the name of a code
 abbrev pub name_of : Code → List ℕ
 name_of Backwards = codes "Backwards"
+name_of BadBaseline = codes "BadBaseline"
 name_of BadBoolean = codes "BadBoolean"
 name_of BadCount = codes "BadCount"
 name_of BadDelay = codes "BadDelay"
@@ -108,6 +109,7 @@ code_named name = first_named name all_codes
 -- what a code means, in one sentence
 abbrev pub sentence_of : Code → List ℕ
 sentence_of Backwards = sentence.BACKWARDS.now
+sentence_of BadBaseline = sentence.BAD_BASELINE.now
 sentence_of BadBoolean = sentence.BAD_BOOLEAN.now
 sentence_of BadCount = sentence.BAD_COUNT.now
 sentence_of BadDelay = sentence.BAD_DELAY.now
@@ -171,6 +173,7 @@ sentence_of ZoneSetting = sentence.ZONE_SETTING.now
 -- what a code means and what to do about it, in lines
 abbrev pub text_of : Code → List ℕ
 text_of Backwards = BACKWARDS.now
+text_of BadBaseline = BAD_BASELINE.now
 text_of BadBoolean = BAD_BOOLEAN.now
 text_of BadCount = BAD_COUNT.now
 text_of BadDelay = BAD_DELAY.now

@@ -12,6 +12,8 @@ use std::convert::AsStr;
 pub enum Code {
     /// A range in a rule, or the span of --since and --upto, ends before it starts.
     Backwards,
+    /// A line of the agenda given to `changes` isn't one that `plan` prints.
+    BadBaseline,
     /// The value of `Persistent=` isn't a boolean, so systemd ignores it.
     BadBoolean,
     /// The number of --count isn't 1 to 1,000.
@@ -136,11 +138,12 @@ pub enum Code {
 impl Code {
     /// Returns all codes, in the order of their names.
     #[tactic(auto, unfolding(crate::specs::Codes::all_codes))]
-    pub fn all() -> [Code; 60]
+    pub fn all() -> [Code; 61]
         ensures { result ≡ all_codes }
     {
         [
             Code::Backwards,
+            Code::BadBaseline,
             Code::BadBoolean,
             Code::BadCount,
             Code::BadDelay,
@@ -211,6 +214,7 @@ impl Code {
     {
         match self {
             Code::Backwards => "Backwards",
+            Code::BadBaseline => "BadBaseline",
             Code::BadBoolean => "BadBoolean",
             Code::BadCount => "BadCount",
             Code::BadDelay => "BadDelay",
@@ -301,6 +305,7 @@ impl Code {
     {
         match self {
             Code::Backwards => sentences::BACKWARDS,
+            Code::BadBaseline => sentences::BAD_BASELINE,
             Code::BadBoolean => sentences::BAD_BOOLEAN,
             Code::BadCount => sentences::BAD_COUNT,
             Code::BadDelay => sentences::BAD_DELAY,
@@ -369,6 +374,7 @@ impl Code {
     {
         match self {
             Code::Backwards => rules::BACKWARDS,
+            Code::BadBaseline => requests::BAD_BASELINE,
             Code::BadBoolean => warnings::BAD_BOOLEAN,
             Code::BadCount => requests::BAD_COUNT,
             Code::BadDelay => warnings::BAD_DELAY,

@@ -279,6 +279,9 @@ ends_failure sources (failure.Span fault) has = caused (codes "agenda: span: ") 
 ends_failure sources (failure.Zone fault) has = ends_zone fault
 ends_failure sources (failure.Run fault) has = ends_run sources fault has
 ends_failure sources (failure.File path) has = longer (codes "agenda: ") _ (longer path _ (ends (codes ": ") code.Device))
+ends_failure sources (failure.BadBaseline path line) has =
+    longer (codes "agenda: ") _ (longer path _ (longer (codes ":") _ (longer (decimal line) _
+    (in_words (codes ": not a line of agenda plan ") code.BadBaseline))))
 ends_failure sources (failure.NotDirectory root) has = absurd has
 ends_failure sources (failure.TooManyUnits root) has = absurd has
 ends_failure sources (failure.Machine fault) has = ends_machine fault

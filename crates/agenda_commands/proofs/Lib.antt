@@ -1,3 +1,4 @@
+mod ChangesLemmas
 mod CodeLemmas
 mod PrepareLemmas
 mod RemarkLemmas

@@ -15,34 +15,40 @@ use Rattle.agenda_cover.proofs.OrderLemmas.{agenda-in_order}
 use Rattle.agenda_faults.specs.Faults.{fault_of_plan}
 use Rattle.agenda_commands.specs.Command.{step}
 use Rattle.agenda_commands.specs.Form.{AnswersForm}
-use Rattle.agenda_commands.specs.Goal.{agenda_of_jobs, quiet_output}
+use Rattle.agenda_commands.specs.Goal.{AnswersPlan, agenda_of_jobs, quiet_output}
 use Rattle.agenda_commands.specs.Remark.{IsOfGaps}
-use Rattle.agenda_commands.specs.Table.{AnswersPlan, IsQuietTable}
+use Rattle.agenda_commands.specs.Table.{IsQuietTable}
 use Rattle.agenda_commands.specs.declared.goal.Goal.TheVariants as goal
 use Rattle.agenda_commands.specs.declared.goal.Planning.{Planning}
 use Rattle.agenda_commands.specs.declared.prepare.Form.{Form}
 use Rattle.agenda_commands.specs.declared.prepare.Form.TheVariants as form
 
--- ---- the entries of a plan are in order
+-- ---- the agenda of a plan
 
-in_order_within :
+made_within :
     (few : Bool) (timings : List Timing) (span : Bounds) (fault : PlanFault) (made : Planned) →
-    step fault_of_plan (cond few (Ok (planned_windows timings span)) (Err fault)) ≡ Ok made → AreInOrder made.entries
-in_order_within true timings span fault made is =
-    let same : planned_windows timings span ≡ made = cc in
-    subst (λ (m : Planned). AreInOrder m.entries) same (agenda-in_order timings span)
-in_order_within false timings span fault made is = absurd cc
+    step fault_of_plan (cond few (Ok (planned_windows timings span)) (Err fault)) ≡ Ok made → planned_windows timings span ≡ made
+made_within true timings span fault made is = cc
+made_within false timings span fault made is = absurd cc
 
-in_order_valid :
+made_valid :
     (valid : Result Sizes PlanFault) (timings : List Timing) (span : Bounds) (made : Planned) →
-    step fault_of_plan (valid >>= (λ sizes. agenda_within timings span sizes.limit)) ≡ Ok made → AreInOrder made.entries
-in_order_valid (Ok sizes) timings span made is =
-    in_order_within (nat_le (length (agenda_of_windows timings span)) sizes.limit) timings span _ made is
-in_order_valid (Err fault) timings span made is = absurd cc
+    step fault_of_plan (valid >>= (λ sizes. agenda_within timings span sizes.limit)) ≡ Ok made → planned_windows timings span ≡ made
+made_valid (Ok sizes) timings span made is =
+    made_within (nat_le (length (agenda_of_windows timings span)) sizes.limit) timings span _ made is
+made_valid (Err fault) timings span made is = absurd cc
 
+-- an agenda that is made is that of the windows
+pub planned-made :
+    (jobs : List JobParts) (planning : Planning) (made : Planned) → agenda_of_jobs jobs planning ≡ Ok made →
+    planned_windows (timings_of jobs) planning.span ≡ made
+planned-made jobs planning made is = made_valid (valid_sizes planning.sizes) (timings_of jobs) planning.span made is
+
+-- so its entries are in order
 pub planned-in_order :
     (jobs : List JobParts) (planning : Planning) (made : Planned) → agenda_of_jobs jobs planning ≡ Ok made → AreInOrder made.entries
-planned-in_order jobs planning made is = in_order_valid (valid_sizes planning.sizes) (timings_of jobs) planning.span made is
+planned-in_order jobs planning made is =
+    subst (λ (m : Planned). AreInOrder m.entries) (planned-made jobs planning made is) (agenda-in_order (timings_of jobs) planning.span)
 
 -- ---- the gaps
 

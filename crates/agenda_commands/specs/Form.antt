@@ -34,6 +34,7 @@ abbrev pub start_of : Goal → ℕ
 start_of (goal.Plan planning view) = planning.span.since
 start_of (goal.Upcoming after delays) = after
 start_of (goal.Quiet planning least) = planning.span.since
+start_of (goal.Changes planning before) = planning.span.since
 
 -- the time from which a table counts: now, if the answer starts there
 abbrev pub origin_at : (start now : ℕ) → Option ℕ

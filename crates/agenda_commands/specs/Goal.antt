@@ -1,5 +1,5 @@
 -- What is made of jobs, by a goal: its text and its errors. All of it is our choice (agenda).
-use Rattle.std.specs.Prelude.{◌≡◌, ◌≢◌, ⊤, ℕ, ◌==◌, if◌then◌else◌, Bool, true, false, List, [], is_some, length, map, Option, None, Some, Result, Ok, Err, slice_get}
+use Rattle.std.specs.Prelude.{◌≡◌, ◌≢◌, ⊤, ℕ, not, ◌==◌, if◌then◌else◌, Bool, true, false, List, [], is_some, length, map, Option, None, Some, Result, Ok, Err, slice_get}
 use Rattle.std.specs.List.{cons_option}
 use Rattle.plan_texts.specs.Steps.{◌>>=◌}
 use Rattle.plan_rules.specs.Job.{JobParts}
@@ -13,6 +13,11 @@ use Rattle.plan_collect.specs.declared.PlanView.TheVariants as view
 use Rattle.plan_downtime.specs.Downtime.{missed_starts}
 use Rattle.plan_downtime.specs.Lines.{downtime_text}
 use Rattle.plan_rules.specs.declared.NamedZone.{NamedZone}
+use Rattle.plan_baseline.specs.Line.{Line}
+use Rattle.plan_changes.specs.Changes.{AreChanges, have_changed}
+use Rattle.plan_changes.specs.declared.Change.{Change as StartChange}
+use Rattle.plan_changes.specs.Lines.{job_texts, lines_of as lines_of_entries}
+use Rattle.plan_changes.specs.Texts.{changes_text}
 use Rattle.plan_week.specs.Week.{week_of}
 use Rattle.plan_week.specs.Texts.{week_text}
 use Rattle.plan_collect.specs.declared.sizes.Sizes.{Sizes}
@@ -42,10 +47,11 @@ abbrev pub valid_goal : Goal → Result (Unit {0}) RunFault
 valid_goal (goal.Quiet planning least) = if least == 0 then Err BadLeast else Ok tt
 valid_goal other = Ok tt
 
--- the answer has a table of its own. The hours of a week and a first entry alone are lines in each form
+-- the answer has a table of its own. The hours of a week, a first entry alone and changes are lines in each form
 abbrev pub has_table : Goal → Bool
 has_table (goal.Plan planning view.Week) = false
 has_table (goal.Plan planning view.First) = false
+has_table (goal.Changes planning before) = false
 has_table other = true
 
 -- the sizes of the goal's plan are valid
@@ -57,6 +63,9 @@ sized_goal (goal.Upcoming after delays) = Ok (goal.Upcoming after delays)
 sized_goal (goal.Quiet planning least) = do
   sizes ← checked_sizes planning
   Ok (goal.Quiet planning least)
+sized_goal (goal.Changes planning before) = do
+  sizes ← checked_sizes planning
+  Ok (goal.Changes planning before)
 
 -- all numbers of the goal are valid: the minimum length of a gap is checked first
 abbrev pub checked_goal : Goal → Result Goal RunFault
@@ -102,15 +111,25 @@ week_output format jobs planning = do
 abbrev pub first_of : List JobParts → Planning → Option (ℕ × ℕ)
 first_of jobs planning = slice_get (agenda_of_windows (timings_of jobs) planning.span) 0
 
--- whether the answer for jobs says that one may start in the span: only the first entry is asked for that
-abbrev pub finds_start : Goal → List JobParts → Bool
-finds_start (goal.Plan planning view.First) jobs = is_some (first_of (counted planning.delays jobs) planning)
-finds_start other jobs = false
+-- the lines of entries of an agenda of jobs
+abbrev pub agenda_lines : List JobParts → (entries : List (ℕ × ℕ)) → List Line
+agenda_lines jobs entries = lines_of_entries (map job_texts jobs) entries
+
+-- the lines of the starts of jobs in the span of a plan
+abbrev pub lines_of_plan : List JobParts → Planning → List Line
+lines_of_plan jobs planning = agenda_lines jobs (agenda_of_windows (timings_of jobs) planning.span)
+
+-- whether the answer for jobs says that one may start in the span, or that the agenda has changed: only the first entry and changes are
+-- asked for that
+abbrev pub finds_any : Goal → List JobParts → Bool
+finds_any (goal.Plan planning view.First) jobs = is_some (first_of (counted planning.delays jobs) planning)
+finds_any (goal.Changes planning before) jobs = have_changed before.lines (lines_of_plan (counted planning.delays jobs) planning)
+finds_any other jobs = false
 
 -- the same, if there are jobs
 abbrev pub finds_in : Goal → Result (List JobParts) RunFault → Bool
 finds_in goal (Err fault) = false
-finds_in goal (Ok jobs) = finds_start goal jobs
+finds_in goal (Ok jobs) = finds_any goal jobs
 
 -- what `clear` writes for the jobs that are planned: the line of the first entry. The limit of entries doesn't count
 abbrev pub first_output : Format → (files : Option (List JobFile)) → List JobParts → Planning → Result (List ℕ) RunFault
@@ -137,8 +156,20 @@ abbrev pub IsTextOfNexts :
 IsTextOfNexts format files jobs after delays text =
     (nexts : List (ℕ × ℕ)) × AreUpcoming jobs after nexts × (text ≡ upcoming_text format delays nexts (ends_of format files jobs))
 
+-- what `changes` writes for an agenda of jobs: how it differs from an earlier one
+abbrev pub IsTextOfChanges : Format → (before : List Line) → List JobParts → Planned → List ℕ → Type 0
+IsTextOfChanges format before jobs made text =
+    (changes : List StartChange) × AreChanges before (agenda_lines jobs made.entries) changes
+    × (text ≡ changes_text format before (agenda_lines jobs made.entries) changes)
+
+-- this is a text of what is planned, or the first error of the plan
+abbrev pub AnswersPlan : (Planned → List ℕ → Type 0) → Result Planned RunFault → Result (List ℕ) RunFault → Type 0
+AnswersPlan IsText (Ok made) (Ok text) = IsText made text
+AnswersPlan IsText (Err fault) (Err found) = fault ≡ found
+AnswersPlan IsText made answer = ⊥
+
 -- the answer for jobs, with their files if these are given, or the first error: that of the jobs, or else that of the goal. The next
--- starts of jobs have none, and gaps have no files
+-- starts of jobs have none, and gaps and changes have no files
 abbrev pub AnswersWithFiles :
     (files : Option (List JobFile)) → Format → Goal → Result (List JobParts) RunFault → Result (List ℕ) RunFault → Type 0
 AnswersWithFiles files format goal (Err fault) answer = Err fault ≡ answer
@@ -148,6 +179,9 @@ AnswersWithFiles files format (goal.Upcoming after delays) (Ok jobs) (Ok text) =
 AnswersWithFiles files format (goal.Upcoming after delays) (Ok jobs) (Err fault) = ⊥
 AnswersWithFiles files format (goal.Quiet planning least) (Ok jobs) answer =
     quiet_output format (counted planning.delays jobs) planning least ≡ answer
+AnswersWithFiles files format (goal.Changes planning before) (Ok jobs) answer =
+    AnswersPlan (λ made text. IsTextOfChanges format before.lines (counted planning.delays jobs) made text)
+    (agenda_of_jobs (counted planning.delays jobs) planning) answer
 
 -- the answer without files
 abbrev pub AnswersGoal : Format → Goal → Result (List JobParts) RunFault → Result (List ℕ) RunFault → Type 0
@@ -174,10 +208,13 @@ text_of format (made.Week agenda week) = week_text format week agenda
 text_of format (made.First first ends delays) = lines_of format delays (cons_option first []) ends
 text_of format (made.Upcoming nexts ends delays) = upcoming_text format delays nexts ends
 text_of format (made.Quiet agenda jobs least) = quiet_text format least agenda jobs
+text_of format (made.Changes changes before agenda lines) =
+    changes_text format before.lines (lines_of_entries lines agenda.entries) changes.items
 
--- whether it says that a job may start in the span
+-- whether it says that a job may start in the span, or that something has changed
 abbrev pub finds : Made → Bool
 finds (made.First first ends delays) = is_some first
+finds (made.Changes changes before agenda lines) = not (length changes.items == 0)
 finds other = false
 
 -- an agenda is one of as many jobs as there are ends of lines, and a first entry is in the planner's years

@@ -33,4 +33,4 @@ IsOfGaps (form.Table table) least made jobs text = IsQuietTable table least made
 
 -- an answer about which nothing is said, but whether it is a first entry
 abbrev pub unremarked : Result (List ℕ × Bool) RunFault → Result RemarkedAnswer RunFault
-unremarked answer = result_map_both (λ made. record { answer = made.0; remark = None; finds_start = made.1 }) (λ fault. fault) answer
+unremarked answer = result_map_both (λ made. record { answer = made.0; remark = None; finds_any = made.1 }) (λ fault. fault) answer

@@ -16,7 +16,7 @@ use Rattle.agenda_table.specs.Dates.{AreDatesOf, gap_times, job_times}
 use Rattle.agenda_table.specs.Last.{after_text, span_text}
 use Rattle.agenda_table.specs.Layout.{table_text}
 use Rattle.agenda_table.specs.Rows.{LookParts, gap_rows, job_rows, job_texts, start_rows}
-use Rattle.agenda_commands.specs.Goal.{agenda_of_jobs}
+use Rattle.agenda_commands.specs.Goal.{AnswersPlan, agenda_of_jobs}
 use Rattle.agenda_commands.specs.declared.goal.Goal.{Goal}
 use Rattle.agenda_commands.specs.declared.goal.Goal.TheVariants as goal
 use Rattle.agenda_commands.specs.declared.table.MadeTable.{MadeTable}
@@ -82,12 +82,6 @@ IsStartsTable form after count starts text =
     × (text ≡ text_of_rows form (start_rows (look_of form dates) count starts)
     (after_text (look_of form dates) (length starts) (codes "start") (min after end_second) form.zone.name))
 
--- this is a table of what is planned, or the first error of the plan
-abbrev pub AnswersPlan : (Planned → List ℕ → Type 0) → Result Planned RunFault → Result (List ℕ) RunFault → Type 0
-AnswersPlan IsTable (Ok made) (Ok text) = IsTable made text
-AnswersPlan IsTable (Err fault) (Err found) = fault ≡ found
-AnswersPlan IsTable made answer = ⊥
-
 -- the answer for jobs, or the first error: that of the jobs, or else that of the goal. The next starts of jobs have none
 abbrev pub AnswersTable : TableForm → Goal → Result (List JobParts) RunFault → Result (List ℕ) RunFault → Type 0
 AnswersTable form goal (Err fault) answer = Err fault ≡ answer
@@ -96,6 +90,9 @@ AnswersTable form (goal.Plan planning view) (Ok jobs) answer =
     (agenda_of_jobs (counted planning.delays jobs) planning) answer
 AnswersTable form (goal.Upcoming after delays) (Ok jobs) (Ok text) = IsNextsTable form jobs after delays text
 AnswersTable form (goal.Upcoming after delays) (Ok jobs) (Err fault) = ⊥
+AnswersTable form (goal.Changes planning before) (Ok jobs) answer =
+    AnswersPlan (λ made text. IsPlanTable form planning.delays made (counted planning.delays jobs) text)
+    (agenda_of_jobs (counted planning.delays jobs) planning) answer
 AnswersTable form (goal.Quiet planning least) (Ok jobs) answer =
     AnswersPlan (λ made text. IsQuietTable form least made (counted planning.delays jobs) text)
     (agenda_of_jobs (counted planning.delays jobs) planning) answer

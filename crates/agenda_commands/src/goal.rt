@@ -3,14 +3,16 @@
 ghost use Rattle.std.specs.Prelude.{◌≡◌, Err, IfErr, IfOk, IsTrue, List, Ok, OnOk, Option, false, length, option_map};
 ghost use Rattle.plan_rules.specs.Delays.{counted};
 ghost use Rattle.agenda_commands.specs.Form.{origin_at, origin_of};
-ghost use Rattle.agenda_commands.specs.Goal.{AnswersGoal, AnswersWithFiles, CanBeWritten, Makes, checked_sizes, clock_of, ends_of, finds, finds_start, has_table, sized_goal, text_of, valid_goal, week_output};
-ghost use Rattle.agenda_commands.specs.declared.goal.Goal.TheVariants.{Plan, Quiet, Upcoming as Nexts};
+ghost use Rattle.agenda_commands.specs.Goal.{AnswersGoal, AnswersWithFiles, CanBeWritten, Makes, checked_sizes, clock_of, ends_of, finds, finds_any, has_table, sized_goal, text_of, valid_goal, week_output};
+ghost use Rattle.agenda_commands.specs.declared.goal.Goal.TheVariants.{Changes, Plan, Quiet, Upcoming as Nexts};
 ghost use Rattle.plan_collect.specs.declared.PlanView.TheVariants as view;
 ghost use Rattle.plan_streams.specs.Stream.{Puts};
 ghost use Rattle.plan_week.specs.Week.{week_of};
 
 use crate::agenda_of::make_agenda;
+use crate::earlier::Earlier;
 use agenda_faults::RunFault;
+use plan_changes::{Change, JobLines, changes, write_changes};
 use plan_clear::first_entry;
 use plan_clock::Clock;
 use plan_collect::{Agenda, PlanView, Sizes, Span, Start};
@@ -39,7 +41,7 @@ pub struct Planning {
 }
 
 /// What a command makes of its jobs.
-#[derive(Clone, Copy, Debug)]
+#[derive(Debug, Drop)]
 pub enum Goal {
     /// The agenda, or a view of it.
     Plan {
@@ -62,6 +64,13 @@ pub enum Goal {
         /// The minimum length of a gap, in seconds.
         least: u32,
     },
+    /// The differences between an earlier agenda and the present one.
+    Changes {
+        /// How the present agenda is made, over the span of the earlier one.
+        planning: Planning,
+        /// The earlier agenda.
+        before: Earlier,
+    },
 }
 
 // The result, which has a text.
@@ -79,6 +88,8 @@ pub(crate) enum Made {
     Upcoming(Upcoming, LineEnds, bool),
     // An agenda of these jobs that is searched for gaps of at least so many seconds.
     Quiet(Agenda, Jobs, u32),
+    // The differences between an earlier agenda and another one, with what the lines of its jobs show.
+    Changes(Vec<Change>, Earlier, Agenda, JobLines),
 }
 
 impl Goal {
@@ -90,6 +101,7 @@ impl Goal {
             Goal::Plan { planning, .. } => planning.span.since(),
             Goal::Upcoming { after, .. } => *after,
             Goal::Quiet { planning, .. } => planning.span.since(),
+            Goal::Changes { planning, .. } => planning.span.since(),
         };
         origin_at(start, now)
     }
@@ -100,10 +112,11 @@ impl Goal {
     {
         !matches!(
             self,
-            Goal::Plan {
-                view: PlanView::Week | PlanView::First,
-                ..
-            }
+            Goal::Changes { .. }
+                | Goal::Plan {
+                    view: PlanView::Week | PlanView::First,
+                    ..
+                }
         )
     }
 
@@ -137,7 +150,7 @@ pub(crate) fn make<R: Threads + Wait + Sync>(
     ensures made { Makes (AnswersWithFiles (option_map (λ files. files.now) files.entry) format.now goal.now (Ok jobs))
         (text_of format.now) result }
     ensures written { IfOk result CanBeWritten }
-    ensures finds { IfOk result (λ made. finds made ≡ finds_start goal.now jobs) }
+    ensures finds { IfOk result (λ made. finds made ≡ finds_any goal.now jobs) }
 
     // These errors are found before any memory is requested.
     ensures at_once { IfErr (sized_goal goal.now) (λ fault. result ≡ Err fault) }
@@ -150,6 +163,9 @@ pub(crate) fn make<R: Threads + Wait + Sync>(
             make_upcoming(alloc, jobs, *after, *delays, format, files)
         }
         Goal::Quiet { planning, least } => make_quiet(rt, alloc, jobs, planning, *least, format),
+        Goal::Changes { planning, before } => {
+            make_changes(rt, alloc, jobs, planning, before, format)
+        }
     }
 }
 
@@ -166,7 +182,7 @@ fn make_view<R: Threads + Wait + Sync>(
     ensures made { Makes (AnswersWithFiles (option_map (λ files. files.now) files.entry) format.now (Plan planning.now view) (Ok jobs))
         (text_of format.now) result }
     ensures written { IfOk result CanBeWritten }
-    ensures finds { IfOk result (λ made. finds made ≡ finds_start (Plan planning.now view) jobs) }
+    ensures finds { IfOk result (λ made. finds made ≡ finds_any (Plan planning.now view) jobs) }
     ensures at_once { IfErr (checked_sizes planning.now) (λ fault. result ≡ Err fault) }
 {
     match view {
@@ -239,7 +255,7 @@ fn make_first(
     ensures made { Makes (AnswersWithFiles (option_map (λ files. files.now) files.entry) format.now (Plan planning.now view.First) (Ok jobs))
         (text_of format.now) result }
     ensures written { IfOk result CanBeWritten }
-    ensures finds { IfOk result (λ made. finds made ≡ finds_start (Plan planning.now view.First) jobs) }
+    ensures finds { IfOk result (λ made. finds made ≡ finds_any (Plan planning.now view.First) jobs) }
     ensures at_once { IfErr (checked_sizes planning.now) (λ fault. result ≡ Err fault) }
 {
     check_sizes(planning)?;
@@ -335,13 +351,36 @@ fn make_quiet<R: Threads + Wait + Sync>(
     Ok(Made::Quiet(agenda, jobs, least))
 }
 
+// Makes the differences between an earlier agenda and that of jobs.
+fn make_changes<R: Threads + Wait + Sync>(
+    rt: &R,
+    alloc: Global,
+    jobs: Jobs,
+    planning: &Planning,
+    before: &Earlier,
+    format: &Format,
+) -> Result<Made, RunFault>
+    ensures made { Makes (AnswersGoal format.now (Changes planning.now before.now) (Ok jobs)) (text_of format.now) result }
+    ensures written { IfOk result CanBeWritten }
+    ensures at_once { IfErr (checked_sizes planning.now) (λ fault. result ≡ Err fault) }
+    ensures finds { IfOk result (λ made. finds made ≡ finds_any (Changes planning.now before.now) jobs) }
+{
+    let jobs = counted(jobs, planning.delays);
+    let agenda = make_agenda(rt, alloc, &jobs, planning)?;
+    let lines = JobLines::new(alloc, &jobs)?;
+    let changes = changes(alloc, before.agenda(), &agenda, &lines)?;
+    let before = before.share()?;
+    Ok(Made::Changes(changes, before, agenda, lines))
+}
+
 impl Made {
-    // Returns whether it says that a job may start in the span.
-    pub(crate) fn finds_start(&self) -> bool
+    // Returns whether it says that a job may start in the span, or that something changed.
+    pub(crate) fn finds_any(&self) -> bool
         ensures { result ≡ finds self.now }
     {
         match self {
             Made::First(first, _, _) => first.is_some(),
+            Made::Changes(changes, ..) => !changes.is_empty(),
             _ => false,
         }
     }
@@ -362,6 +401,9 @@ impl Made {
             }
             Made::Quiet(agenda, jobs, least) => {
                 write_quiet(agenda, jobs, u64::from(*least), format, out)
+            }
+            Made::Changes(changes, before, agenda, lines) => {
+                write_changes(changes, before.agenda(), agenda, lines, format, out)
             }
         }
     }

@@ -16,6 +16,7 @@
 mod agenda_of;
 mod check;
 mod describe;
+mod earlier;
 mod explain;
 mod goal;
 mod laws;
@@ -27,6 +28,7 @@ mod table;
 
 pub use check::{Checked, are_warnings, run_check};
 pub use describe::{prepare_description, run_describe};
+pub use earlier::Earlier;
 pub use explain::run_explain;
 pub use goal::{Goal, Planning, origin_at};
 pub use laws::codes_are_explained;

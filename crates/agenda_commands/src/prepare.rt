@@ -60,8 +60,8 @@ pub struct RemarkedAnswer {
     pub answer: PreparedAnswer,
     /// A line for people, if there is something to say.
     pub remark: Option<Text>,
-    /// Whether the answer is the first entry of an agenda: then a job may start in the span.
-    pub finds_start: bool,
+    /// Whether the answer has a start in a span that was to be clear, or a change.
+    pub finds_any: bool,
 }
 
 /// Returns the errors of sources and the jobs that are left without them, if a request keeps going. If it doesn't,
@@ -88,7 +88,7 @@ pub fn kept_if(
 }
 
 /// Prepares the answer that `goal` requests, in a format. Its jobs are those that were kept, or else all jobs of the
-/// sources. Nothing is said about the answer, but whether it is a first entry. Nothing is written. The function waits for
+/// sources. Nothing is said about the answer, but whether it is a first entry or a change. Nothing is written. The function waits for
 /// the planners of a plan.
 ///
 /// The planners of the goal's sizes search for the starts, each in its own thread.
@@ -113,7 +113,7 @@ pub fn prepare_answer<R: Threads + Wait + Sync>(
     format: Format,
 ) -> Result<RemarkedAnswer, RunFault>
     ensures answer { Makes (AnswersGoal format goal.now (checked_jobs goal.now (jobs_or kept zones.now sources.now))) (λ made. made.answer) result }
-    ensures finds { IfOk result (λ made. made.finds_start ≡ finds_in goal.now (jobs_or kept zones.now sources.now)) }
+    ensures finds { IfOk result (λ made. made.finds_any ≡ finds_in goal.now (jobs_or kept zones.now sources.now)) }
 
     // These errors are found before any memory is requested.
     ensures bad_least { IfErr (valid_goal goal.now) (λ fault. result ≡ Err fault) }
@@ -123,14 +123,14 @@ pub fn prepare_answer<R: Threads + Wait + Sync>(
     goal.check()?;
     let jobs = jobs_or(alloc, kept, sources, zones)?;
     let made = make(rt, alloc, jobs, goal, &format, None)?;
-    let finds_start = made.finds_start();
+    let finds_any = made.finds_any();
     let answer = PreparedAnswer {
         answer: Prepared::Lines(made, format),
     };
     Ok(RemarkedAnswer {
         answer,
         remark: None,
-        finds_start,
+        finds_any,
     })
 }
 

@@ -2,7 +2,7 @@
 
 ghost use Rattle.std.specs.Prelude.{◌≡◌, Err, IfErr, IfOk, Ok, false, option_map};
 ghost use Rattle.agenda_commands.specs.Form.{AnswersForm};
-ghost use Rattle.agenda_commands.specs.Goal.{AnswersWithFiles, Makes, checked_goal, checked_jobs, checked_sizes, finds_start, sized_goal};
+ghost use Rattle.agenda_commands.specs.Goal.{AnswersWithFiles, Makes, checked_goal, checked_jobs, checked_sizes, finds_any, sized_goal};
 ghost use Rattle.agenda_commands.specs.Remark.{IsOfGaps, remark_of, unremarked};
 ghost use Rattle.agenda_commands.specs.declared.goal.Goal.TheVariants.{Quiet};
 ghost use Rattle.agenda_cover.specs.Cover.{AreInOrder};
@@ -43,7 +43,7 @@ pub fn prepare_remarked<R: Threads + Wait + Sync>(
     ensures answer { Makes (AnswersForm (option_map (λ files. files.now) files.entry) form goal.now (checked_jobs goal.now (Ok jobs)))
         (λ made. made.answer) result }
     ensures remark { IfOk result (λ made. made.remark ≡ remark_of goal.now jobs) }
-    ensures finds { IfOk result (λ made. made.finds_start ≡ finds_start goal.now jobs) }
+    ensures finds { IfOk result (λ made. made.finds_any ≡ finds_any goal.now jobs) }
 
     // These errors are found before any memory is requested.
     ensures at_once { IfErr (checked_goal goal.now) (λ fault. result ≡ Err fault) }
@@ -64,17 +64,18 @@ fn make_remarked<R: Threads + Wait + Sync>(
 ) -> Result<RemarkedAnswer, RunFault>
     ensures answer { Makes (AnswersForm (option_map (λ files. files.now) files.entry) form goal.now (Ok jobs)) (λ made. made.answer) result }
     ensures remark { IfOk result (λ made. made.remark ≡ remark_of goal.now jobs) }
-    ensures finds { IfOk result (λ made. made.finds_start ≡ finds_start goal.now jobs) }
+    ensures finds { IfOk result (λ made. made.finds_any ≡ finds_any goal.now jobs) }
     ensures at_once { IfErr (sized_goal goal.now) (λ fault. result ≡ Err fault) }
 {
     match goal {
         Goal::Quiet { planning, least } => make_quiet(rt, alloc, jobs, planning, *least, form),
         Goal::Plan { .. } => unremarked(make_in_form(rt, alloc, jobs, goal, form, files)),
+        Goal::Changes { .. } => unremarked(make_in_form(rt, alloc, jobs, goal, form, files)),
         Goal::Upcoming { .. } => unremarked(make_in_form(rt, alloc, jobs, goal, form, files)),
     }
 }
 
-// Makes what `goal` requests of jobs, in a form, and says whether it is a first entry.
+// Makes what `goal` requests of jobs, in a form, and says whether it is a first entry or a change.
 fn make_in_form<R: Threads + Wait + Sync>(
     rt: &R,
     alloc: Global,
@@ -84,7 +85,7 @@ fn make_in_form<R: Threads + Wait + Sync>(
     files: Option<&[JobFile]>,
 ) -> Result<(PreparedAnswer, bool), RunFault>
     ensures answer { Makes (AnswersForm (option_map (λ files. files.now) files.entry) form goal.now (Ok jobs)) (λ made. made.0) result }
-    ensures finds { IfOk result (λ made. made.1 ≡ finds_start goal.now jobs) }
+    ensures finds { IfOk result (λ made. made.1 ≡ finds_any goal.now jobs) }
     ensures at_once { IfErr (sized_goal goal.now) (λ fault. result ≡ Err fault) }
 {
     match form {
@@ -103,7 +104,7 @@ fn make_in_form<R: Threads + Wait + Sync>(
     }
 }
 
-// Makes what `goal` requests of jobs, as lines, and says whether it is a first entry.
+// Makes what `goal` requests of jobs, as lines, and says whether it is a first entry or a change.
 fn make_lines<R: Threads + Wait + Sync>(
     rt: &R,
     alloc: Global,
@@ -113,14 +114,14 @@ fn make_lines<R: Threads + Wait + Sync>(
     files: Option<&[JobFile]>,
 ) -> Result<(PreparedAnswer, bool), RunFault>
     ensures made { Makes (AnswersWithFiles (option_map (λ files. files.now) files.entry) format goal.now (Ok jobs)) (λ made. made.0) result }
-    ensures finds { IfOk result (λ made. made.1 ≡ finds_start goal.now jobs) }
+    ensures finds { IfOk result (λ made. made.1 ≡ finds_any goal.now jobs) }
     ensures at_once { IfErr (sized_goal goal.now) (λ fault. result ≡ Err fault) }
 {
     let made = make(rt, alloc, jobs, goal, &format, files)?;
-    let finds_start = made.finds_start();
+    let finds_any = made.finds_any();
     Ok((
         PreparedAnswer::new(Prepared::Lines(made, format)),
-        finds_start,
+        finds_any,
     ))
 }
 
@@ -129,10 +130,10 @@ fn unremarked(answer: Result<(PreparedAnswer, bool), RunFault>) -> Result<Remark
     ensures { result ≡ unremarked answer }
 {
     match answer {
-        Ok((answer, finds_start)) => Ok(RemarkedAnswer {
+        Ok((answer, finds_any)) => Ok(RemarkedAnswer {
             answer,
             remark: None,
-            finds_start,
+            finds_any,
         }),
         Err(fault) => Err(fault),
     }
@@ -149,7 +150,7 @@ fn make_quiet<R: Threads + Wait + Sync>(
 ) -> Result<RemarkedAnswer, RunFault>
     ensures answer { Makes (AnswersForm None form (Quiet planning.now least) (Ok jobs)) (λ made. made.answer) result }
     ensures remark { IfOk result (λ made. made.remark ≡ remark_of (Quiet planning.now least) jobs) }
-    ensures finds { IfOk result (λ made. made.finds_start ≡ false) }
+    ensures finds { IfOk result (λ made. made.finds_any ≡ false) }
     ensures at_once { IfErr (checked_sizes planning.now) (λ fault. result ≡ Err fault) }
 {
     let jobs = counted(jobs, planning.delays);
@@ -169,14 +170,14 @@ fn remarked(
     requires { AreInOrder agenda.entries }
     ensures answer { IfOk result (λ made. IsOfGaps form least agenda jobs made.answer) }
     ensures remark { IfOk result (λ made. made.remark ≡ remark least agenda jobs) }
-    ensures finds { IfOk result (λ made. made.finds_start ≡ false) }
+    ensures finds { IfOk result (λ made. made.finds_any ≡ false) }
 {
     let remark = remark_on(alloc, &agenda, &jobs, u64::from(least))?;
     let answer = gaps_in_form(alloc, agenda, jobs, least, form)?;
     Ok(RemarkedAnswer {
         answer,
         remark,
-        finds_start: false,
+        finds_any: false,
     })
 }
 

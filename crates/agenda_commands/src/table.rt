@@ -80,6 +80,9 @@ pub(crate) fn make_table<R: Threads + Wait + Sync>(
             Ok(table)
         }
         Goal::Quiet { planning, least } => make_quiet(rt, alloc, jobs, planning, *least, form),
+        Goal::Changes { planning, .. } => {
+            make_plan(rt, alloc, jobs, planning, PlanView::Starts, form)
+        }
     }
 }
 

@@ -7,7 +7,7 @@ use Rattle.agenda_script.specs.declared.fault.ScriptCause.TheVariants as script
 use Rattle.agenda_faults.specs.declared.faults.RunFault.{RunFault}
 use Rattle.agenda_faults.specs.declared.faults.RunFault.TheVariants.{NoMemory, BadCount, Rule, InSource, SameName, Full, Plan, Script, Device, BadLeast, TooManyStarts}
 use Rattle.agenda_faults.specs.declared.faults.Failure.{Failure}
-use Rattle.agenda_faults.specs.declared.faults.Failure.TheVariants.{Usage, Moment, Span, Zone, Run, File, NotDirectory, TooManyUnits, Machine}
+use Rattle.agenda_faults.specs.declared.faults.Failure.TheVariants.{Usage, Moment, Span, Zone, Run, File, BadBaseline, NotDirectory, TooManyUnits, Machine}
 use Rattle.agenda_faults.specs.declared.machine_faults.TimeOption.{TimeOption}
 use Rattle.agenda_faults.specs.declared.machine_faults.TimeOption.TheVariants as option
 use Rattle.plan_rules.specs.declared.LineCause.{LineCause}
@@ -126,6 +126,11 @@ about_option option.After = codes "agenda: after: "
 about_option option.Since = codes "agenda: since: "
 about_option option.Until = codes "agenda: upto: "
 
+-- a line of an agenda that isn't one that `plan` prints
+abbrev pub baseline_line : (path : List ℕ) → (line : ℕ) → List ℕ
+baseline_line path line =
+    codes "agenda: " ++ (path ++ numbered_line (codes ":") line (codes "not a line of agenda plan [BadBaseline]"))
+
 -- what standard error gets: the text of usage unchanged, or one line
 abbrev pub fault_text : List SourcePath → Failure → List ℕ
 fault_text sources (Usage text) = text
@@ -134,6 +139,7 @@ fault_text sources (Span fault) = caused_line (codes "agenda: span: ") (span_cau
 fault_text sources (Zone fault) = zone_line fault
 fault_text sources (Run fault) = run_line sources fault
 fault_text sources (File path) = codes "agenda: " ++ (path ++ codes ": Device\n")
+fault_text sources (BadBaseline path line) = baseline_line path line
 fault_text sources (NotDirectory root) = codes "agenda: " ++ (root ++ codes ": not a directory\n")
 fault_text sources (TooManyUnits root) = codes "agenda: " ++ (root ++ codes ": more than 10000 units\n")
 fault_text sources (Machine fault) = machine_line fault

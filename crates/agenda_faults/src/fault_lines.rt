@@ -2,7 +2,7 @@
 
 ghost use Rattle.std.specs.Prelude.{◌≡◌, ◌++◌, IsTrue, OnOk, codes, true};
 ghost use Rattle.agenda_faults.specs.Faults.{status_of};
-ghost use Rattle.agenda_faults.specs.FaultLines.{about_option, caused_line, collect_line, device_line, fault_text, name_of, numbered_line, plan_line, rule_line, run_line};
+ghost use Rattle.agenda_faults.specs.FaultLines.{about_option, baseline_line, caused_line, collect_line, device_line, fault_text, name_of, numbered_line, plan_line, rule_line, run_line};
 ghost use Rattle.agenda_faults.specs.FaultLines.{script_line, source_line, source_name, source_rule_line, text_of_line, text_of_part, zone_line};
 ghost use Rattle.plan_streams.specs.Stream.{Puts, PutsOrBreaksOff};
 ghost use Rattle.plan_streams.specs.Writer.{Takes};
@@ -65,6 +65,7 @@ fn put_failure<S: Stream>(failure: &Failure, sources: &[SourcePath], line: &mut 
         Failure::Zone(fault) => put_zone_fault(*fault, line),
         Failure::Run(fault) => put_run_fault(fault, sources, line),
         Failure::File(path) => put_between(b"agenda: ", path.as_str(), b": Device\n", line),
+        Failure::BadBaseline(path, number) => put_baseline_line(path.as_str(), *number, line),
         Failure::NotDirectory(root) => {
             put_between(b"agenda: ", root.as_str(), b": not a directory\n", line);
         }
@@ -78,6 +79,19 @@ fn put_failure<S: Stream>(failure: &Failure, sources: &[SourcePath], line: &mut 
         }
         Failure::Machine(fault) => put_machine_fault(fault, line),
     }
+}
+
+// Puts the line of an agenda that isn't one that `plan` prints.
+fn put_baseline_line<S: Stream>(path: &str, number: u32, line: &mut TextWriter<'_, S>)
+    ensures { Takes S.holds S.takes_all line.old line.new (baseline_line path.now number) }
+{
+    line.put_both(b"agenda: ", path.as_bytes());
+    put_numbered(
+        b":",
+        number,
+        "not a line of agenda plan [BadBaseline]",
+        line,
+    );
 }
 
 // Returns the text that says which option a timestamp is about.

@@ -162,6 +162,8 @@ pub enum Failure {
     Run(RunFault),
     /// The file with this path can't be opened or read.
     File(Text),
+    /// The agenda with this path isn't one that `plan` prints: this line, from 1, is the first that is wrong.
+    BadBaseline(Text, u32),
     /// The root of a machine, which has this path, isn't a directory.
     NotDirectory(Text),
     /// The boot of the machine whose root has this path reaches more than 10,000 units.
@@ -234,6 +236,7 @@ impl Failure {
             Failure::Zone(fault) => zone_status(*fault),
             Failure::Run(fault) => fault.status(),
             Failure::File(_) => FAILED,
+            Failure::BadBaseline(_, _) => REJECTED,
             Failure::NotDirectory(_) | Failure::TooManyUnits(_) => REJECTED,
             Failure::Machine(fault) => machine_status(fault),
         }

@@ -1,3 +1,4 @@
+pub mod Baselines
 pub mod EventZones
 pub mod Files
 pub mod MachineFiles

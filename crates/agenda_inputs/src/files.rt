@@ -72,7 +72,7 @@ pub(crate) fn read_file<F: Files>(
 }
 
 // Returns the failure of a file that gives an error of this kind: out of memory, or else `unread`.
-fn failure_of_kind(kind: ErrorKind, unread: Failure) -> Failure
+pub(crate) fn failure_of_kind(kind: ErrorKind, unread: Failure) -> Failure
     ensures { result ≡ failure_of_kind kind unread }
 {
     match kind {

@@ -4,6 +4,7 @@
 //! and `machine_zone` do the same for a machine, whose tree is below a root. `suggestion` is for a zone that doesn't exist.
 #![tactic(auto)]
 
+mod baselines;
 mod event_zones;
 mod files;
 mod machine_files;
@@ -12,6 +13,7 @@ mod sources;
 mod suggestion;
 mod zone;
 
+pub use baselines::read_baseline;
 pub use event_zones::{read_zones, zones_of_rule};
 pub use files::{Files, MOST_READ, read_front, read_path};
 pub use machine_files::MachineFiles;

@@ -165,6 +165,13 @@ search_rules = number_option (codes "planners") (codes "2") ∷ number_option (c
 unfoldable pub clear : App
 clear = with_each (with_sources (with_each (with_zones (with_span (new_app (codes "clear")))) clear_rules)) search_rules
 
+-- `changes BEFORE` with the zones, `[--keep-going]`, the form of the output, the sources and the sizes (agenda)
+unfoldable pub changes : App
+changes = with_sizes
+    (with_sources (with_format (with_each (with_zones (subcommand_with (codes "changes") (required_argument (codes "before") ∷ [])))
+    (flag_option (codes "keep-going") ∷ []))))
+    (codes "10000")
+
 -- which warnings `check` makes errors, and which it leaves out: `[--deny CODE ..] [--allow CODE ..]` (agenda)
 abbrev pub policy_rules : List Rule
 policy_rules = repeated_option (codes "deny") ∷ repeated_option (codes "allow") ∷ []
@@ -273,6 +280,12 @@ unfoldable pub machine_week : App
 machine_week = with_each (with_machine_times (codes "today") (codes "+7d") (new_app (codes "week")))
     (machine_zone_rules ++ except_option ∷ flag_option (codes "strict") ∷ flag_option (codes "json") ∷ machine_size_rules)
 
+-- `machine changes BEFORE` with the machine, the zone, `[--except JOB ..]`, `[--strict]`, `[--json]` and the sizes (agenda)
+unfoldable pub machine_changes : App
+machine_changes = with_each (with_machine (new_app (codes "changes")))
+    (required_argument (codes "before") ∷ machine_zone_rules ++ except_option ∷ flag_option (codes "strict") ∷ flag_option (codes "json")
+    ∷ machine_size_rules)
+
 -- `machine next RULE` with `[--after TIME] [--count N]`, the zone and the form (agenda)
 unfoldable pub machine_next : App
 machine_next = subcommand_with (codes "next") (required_argument (codes "rule") ∷ preset_option (codes "after") (codes "now")
@@ -294,6 +307,7 @@ app_for each.Quiet = quiet
 app_for each.Downtime = downtime
 app_for each.Clear = clear
 app_for each.Week = week
+app_for each.Changes = changes
 app_for each.Check = check
 app_for each.Describe = describe
 app_for each.Machine = machine_listed
@@ -305,6 +319,7 @@ app_for each.MachineQuiet = machine_quiet
 app_for each.MachineDowntime = machine_downtime
 app_for each.MachineClear = machine_clear
 app_for each.MachineWeek = machine_week
+app_for each.MachineChanges = machine_changes
 app_for each.MachineCheck = machine_check
 app_for each.MachineSources = machine_sources
 app_for each.MachineNext = machine_next
@@ -313,13 +328,13 @@ app_for each.MachineDescribe = machine_describe
 -- the subcommands of `agenda`, in the order in which help lists them (agenda)
 abbrev pub subcommands : List Subcommand
 subcommands =
-    each.Next ∷ each.Plan ∷ each.Upcoming ∷ each.Quiet ∷ each.Downtime ∷ each.Clear ∷ each.Week ∷ each.Check ∷ each.Describe
-    ∷ each.Machine ∷ each.Steps ∷ each.Explain ∷ []
+    each.Next ∷ each.Plan ∷ each.Upcoming ∷ each.Quiet ∷ each.Downtime ∷ each.Clear ∷ each.Changes ∷ each.Week ∷ each.Check
+    ∷ each.Describe ∷ each.Machine ∷ each.Steps ∷ each.Explain ∷ []
 
 -- the questions about a machine, in the order in which help lists them (agenda)
 abbrev pub questions : List Subcommand
-questions = each.MachineUpcoming ∷ each.MachinePlan ∷ each.MachineQuiet ∷ each.MachineDowntime ∷ each.MachineClear ∷ each.MachineWeek
-    ∷ each.MachineCheck ∷ each.MachineSources ∷ each.MachineNext ∷ each.MachineDescribe ∷ []
+questions = each.MachineUpcoming ∷ each.MachinePlan ∷ each.MachineQuiet ∷ each.MachineDowntime ∷ each.MachineClear ∷ each.MachineChanges
+    ∷ each.MachineWeek ∷ each.MachineCheck ∷ each.MachineSources ∷ each.MachineNext ∷ each.MachineDescribe ∷ []
 
 -- a command with these subcommands added, one after the other (agenda)
 abbrev pub with_subcommands : App → List Subcommand → App

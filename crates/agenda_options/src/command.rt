@@ -66,6 +66,9 @@ const PLANNERS: CommandOption<'static> = CommandOption::Tuning("planners", "2", 
 
 const ROOM: CommandOption<'static> = CommandOption::Tuning("room", "16", help::ROOM);
 
+// The maximum number of starts of a plan.
+const PLAN_LIMIT: CommandOption<'static> = CommandOption::Number("limit", "10000", help::LIMIT);
+
 impl<'a> CommandOption<'a> {
     // Returns the option in clap's terms.
     fn to_clap(self, alloc: Global) -> Arg<'a>
@@ -109,6 +112,7 @@ pub fn agenda_command<'a>(alloc: Global) -> Result<Command<'a>, AllocError>
         Subcommand::Quiet,
         Subcommand::Downtime,
         Subcommand::Clear,
+        Subcommand::Changes,
         Subcommand::Week,
         Subcommand::Check,
         Subcommand::Describe,
@@ -162,15 +166,7 @@ fn plan_command<'a>(alloc: Global) -> Result<Command<'a>, AllocError>
     let command = new_subcommand(alloc, "plan", help::PLAN, help::AFTER_PLAN);
     let command = with_span(alloc, command)?;
     let command = with_jobs(alloc, command, help::DELAYS)?;
-    with_arguments(
-        alloc,
-        command,
-        &[
-            PLANNERS,
-            ROOM,
-            CommandOption::Number("limit", "10000", help::LIMIT),
-        ],
-    )
+    with_arguments(alloc, command, &[PLANNERS, ROOM, PLAN_LIMIT])
 }
 
 #[tactic(auto, unfolding(crate::specs::Command::upcoming))]

@@ -1,5 +1,16 @@
 //! What is said about errors of the arguments and of the machine.
 
+pub(crate) const BAD_BASELINE: &str = "\
+A line of the agenda given to 'changes' isn't one that 'plan' prints. The file
+was changed, isn't complete, or was made with --json, --delays or --table. The
+error names its line. Make the file again.
+
+Before:
+    agenda plan --json .. >before
+After:
+    agenda plan .. >before
+";
+
 pub(crate) const BAD_COUNT: &str = "\
 The number of --count isn't 1 to 1,000. For more starts run the command again,
 with --after set to the last time that was printed.

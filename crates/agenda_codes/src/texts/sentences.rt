@@ -3,6 +3,9 @@
 pub(crate) const BACKWARDS: &str =
     "A range in a rule, or the span of --since and --upto, ends before it starts.";
 
+pub(crate) const BAD_BASELINE: &str =
+    "A line of the agenda given to 'changes' isn't one that 'plan' prints.";
+
 pub(crate) const BAD_BOOLEAN: &str =
     "The value of 'Persistent=' isn't a boolean, so systemd ignores it.";
 

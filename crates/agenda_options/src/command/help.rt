@@ -183,6 +183,21 @@ read or is invalid is an error, never status 0.
 Example:
   agenda clear --since 2024-06-01T22:00:00Z --until 2024-06-01T23:30:00Z backup.timer";
 
+pub(super) const CHANGES: &str = "Compares a plan with one that was made before";
+
+pub(super) const AFTER_CHANGES: &str = "\
+Plans the span of the agenda in BEFORE again, and prints a line for each start that is only
+in one of both agendas: '-' for one that is only in BEFORE or '+' for one that is new, the
+time, the job's name and what it runs, separated by tabs. Starts are compared by their time
+and by what they run. The exit status is 0 if nothing changed, otherwise 1.
+
+Example:
+  agenda plan --since 2024-01-01T00:00:00Z --until 2024-01-08T00:00:00Z \\
+    --crontab jobs >before
+  agenda changes before --crontab jobs";
+
+pub(super) const BEFORE: &str = "A file with what 'plan' printed, as text";
+
 pub(super) const WEEK: &str = "Shows how many jobs start in each hour of a span";
 
 pub(super) const AFTER_WEEK: &str = "\
@@ -329,6 +344,19 @@ skipped, or if a file can't be read.
 
 Example:
   agenda machine clear --until +90min && reboot";
+
+pub(super) const MACHINE_CHANGES: &str = "Compares a machine's plan with one made before";
+
+pub(super) const AFTER_MACHINE_CHANGES: &str = "\
+Prints what 'agenda changes' prints, about the files that 'agenda machine sources' lists.
+BEFORE has what 'agenda machine plan' printed into a file. Times are those of the machine's
+clocks, with their offset from UTC. Standard error has a line for each file that is skipped
+or isn't planned, and the errors of the files. The exit status is 1 if a start changed, if
+there is such an error or if a file can't be read, otherwise 0.
+
+Example:
+  agenda machine plan --until +7d >before
+  agenda machine changes before";
 
 pub(super) const MACHINE_WEEK: &str = "Shows how many jobs of a machine start in each hour";
 

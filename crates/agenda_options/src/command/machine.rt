@@ -2,7 +2,7 @@
 ghost use Rattle.std.specs.Prelude.{◌≡◌, IfOk, false};
 ghost use Rattle.clap.specs.Words.{app_of};
 ghost use Rattle.clap.specs.declared.builder.command.Command.TheViews.{out-Command};
-ghost use Rattle.agenda_options.specs.Command.{machine, machine_alone, machine_check, machine_clear, machine_describe, machine_downtime, machine_next};
+ghost use Rattle.agenda_options.specs.Command.{machine, machine_alone, machine_changes, machine_check, machine_clear, machine_describe, machine_downtime, machine_next};
 ghost use Rattle.agenda_options.specs.Command.{machine_plan, machine_quiet, machine_sources, machine_upcoming, machine_week, with_machine_span, with_machine_times};
 
 use super::subcommands::Subcommand;
@@ -60,6 +60,7 @@ pub fn machine_command<'a>(alloc: Global) -> Result<Command<'a>, AllocError>
         Subcommand::MachineQuiet,
         Subcommand::MachineDowntime,
         Subcommand::MachineClear,
+        Subcommand::MachineChanges,
         Subcommand::MachineWeek,
         Subcommand::MachineCheck,
         Subcommand::MachineSources,
@@ -275,6 +276,41 @@ pub(super) fn machine_clear_command<'a>(alloc: Global) -> Result<Command<'a>, Al
             EXCEPT,
             CommandOption::Flag("nominal", help::NOMINAL),
             STRICT,
+            PLANNERS,
+            ROOM,
+        ],
+    )
+}
+
+/// Returns the command line of `agenda machine changes`.
+///
+/// # Errors
+///
+/// An allocation failed.
+#[tactic(auto, unfolding(crate::specs::Command::machine_changes, crate::specs::Command::with_machine))]
+pub(super) fn machine_changes_command<'a>(alloc: Global) -> Result<Command<'a>, AllocError>
+    ensures app { IfOk result (λ command. app_of command ≡ machine_changes) }
+    ensures local { IfOk result (λ command. (out-Command command).has_globals ≡ false) }
+{
+    let command = new_subcommand(
+        alloc,
+        "changes",
+        help::MACHINE_CHANGES,
+        help::AFTER_MACHINE_CHANGES,
+    );
+    with_arguments(
+        alloc,
+        command,
+        &[
+            ROOT,
+            ALL,
+            CommandOption::Argument("before", "BEFORE", help::BEFORE),
+            ZONE,
+            UTC,
+            EXCEPT,
+            STRICT,
+            JSON,
+            LIMIT,
             PLANNERS,
             ROOM,
         ],

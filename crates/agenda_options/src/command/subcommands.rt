@@ -5,11 +5,11 @@ ghost use Rattle.clap.specs.declared.builder.command.Command.TheViews.{out-Comma
 ghost use Rattle.agenda_options.specs.Command.{app_for};
 
 use super::machine::{
-    machine_check_command, machine_clear_command, machine_describe_command,
-    machine_downtime_command, machine_next_command, machine_plan_command, machine_quiet_command,
-    machine_sources_command, machine_upcoming_command, machine_week_command,
+    machine_changes_command, machine_check_command, machine_clear_command,
+    machine_describe_command, machine_downtime_command, machine_next_command, machine_plan_command,
+    machine_quiet_command, machine_sources_command, machine_upcoming_command, machine_week_command,
 };
-use super::windows::{clear_command, downtime_command, week_command};
+use super::windows::{changes_command, clear_command, downtime_command, week_command};
 use super::{
     check_command, describe_command, explain_command, help, new_subcommand, next_command,
     plan_command, quiet_command, steps_command, upcoming_command,
@@ -26,6 +26,7 @@ pub(super) enum Subcommand {
     Quiet,
     Downtime,
     Clear,
+    Changes,
     Week,
     Check,
     Describe,
@@ -37,6 +38,7 @@ pub(super) enum Subcommand {
     MachineQuiet,
     MachineDowntime,
     MachineClear,
+    MachineChanges,
     MachineWeek,
     MachineCheck,
     MachineSources,
@@ -62,6 +64,7 @@ impl Subcommand {
             Subcommand::Quiet => quiet_command(alloc),
             Subcommand::Downtime => downtime_command(alloc),
             Subcommand::Clear => clear_command(alloc),
+            Subcommand::Changes => changes_command(alloc),
             Subcommand::Week => week_command(alloc),
             Subcommand::Check => check_command(alloc),
             Subcommand::Describe => describe_command(alloc),
@@ -76,6 +79,7 @@ impl Subcommand {
             Subcommand::MachineQuiet => machine_quiet_command(alloc),
             Subcommand::MachineDowntime => machine_downtime_command(alloc),
             Subcommand::MachineClear => machine_clear_command(alloc),
+            Subcommand::MachineChanges => machine_changes_command(alloc),
             Subcommand::MachineWeek => machine_week_command(alloc),
             Subcommand::MachineCheck => machine_check_command(alloc),
             Subcommand::MachineSources => machine_sources_command(alloc),

@@ -1,12 +1,12 @@
-//! Describes the commands about a window of time: `downtime`, `clear` and `week`.
+//! Describes the commands about a window of time: `downtime`, `clear`, `changes` and `week`.
 ghost use Rattle.std.specs.Prelude.{◌≡◌, IfOk, false};
 ghost use Rattle.clap.specs.Words.{app_of};
 ghost use Rattle.clap.specs.declared.builder.command.Command.TheViews.{out-Command};
-ghost use Rattle.agenda_options.specs.Command.{clear, downtime, week, with_window};
+ghost use Rattle.agenda_options.specs.Command.{changes, clear, downtime, week, with_window};
 
 use super::{
-    CommandOption, EVENT_ZONES, JSON, LOCAL, PLANNERS, ROOM, ZONE, help, new_subcommand,
-    with_arguments, with_sources, with_span,
+    CommandOption, EVENT_ZONES, JSON, LOCAL, PLAN_LIMIT, PLANNERS, ROOM, ZONE, help,
+    new_subcommand, with_arguments, with_sources, with_span,
 };
 use clap::Command;
 use std::alloc::{AllocError, Global};
@@ -53,6 +53,32 @@ pub(super) fn clear_command<'a>(alloc: Global) -> Result<Command<'a>, AllocError
     )?;
     let command = with_sources(alloc, command)?;
     with_arguments(alloc, command, &[PLANNERS, ROOM])
+}
+
+/// Returns the command line of `agenda changes`.
+///
+/// # Errors
+///
+/// An allocation failed.
+pub(super) fn changes_command<'a>(alloc: Global) -> Result<Command<'a>, AllocError>
+    ensures app { IfOk result (λ command. app_of command ≡ changes) }
+    ensures local { IfOk result (λ command. (out-Command command).has_globals ≡ false) }
+{
+    let command = new_subcommand(alloc, "changes", help::CHANGES, help::AFTER_CHANGES);
+    let command = with_arguments(
+        alloc,
+        command,
+        &[
+            CommandOption::Argument("before", "BEFORE", help::BEFORE),
+            ZONE,
+            EVENT_ZONES,
+            KEEP_GOING,
+            JSON,
+            LOCAL,
+        ],
+    )?;
+    let command = with_sources(alloc, command)?;
+    with_arguments(alloc, command, &[PLANNERS, ROOM, PLAN_LIMIT])
 }
 
 /// Returns the command line of `agenda week`.

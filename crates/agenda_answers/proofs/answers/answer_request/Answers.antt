@@ -7,6 +7,9 @@ returns-in-Starts-clause-answers g c = rw c.in-Starts.is (_, c.next.ensures.ends
 pub returns-in-Jobs-clause-answers : goal.returns-in-Jobs-clause-answers
 returns-in-Jobs-clause-answers g c = rw c.in-Jobs.is c.answer_jobs.ensures.answers
 
+pub returns-in-Changes-clause-answers : goal.returns-in-Changes-clause-answers
+returns-in-Changes-clause-answers g c = rw c.in-Changes.is c.answer_changes.ensures.answers
+
 pub returns-in-Check-clause-answers : goal.returns-in-Check-clause-answers
 returns-in-Check-clause-answers g c =
     rw c.in-Check.is (_, c.check-done.ensures.ends, rw c.as_slice.ensures at c.end-in-Check.ensures.exits)

@@ -12,36 +12,36 @@ returns-in_err-clock g c = failed _ _ (rw c.root_of.ensures at c.in_err-clock.en
 pub returns-in_err-goal : goal.returns-in_err-goal
 returns-in_err-goal g c =
     goes _ (rw c.root_of.ensures at c.in_ok-clock.ensures.read)
-    (failed _ _ c.in_err-goal.ensures c.from_residual-in_err-goal.ensures.1)
+    (failed _ _ (rw c.in_ok-clock.ensures.same at c.in_err-goal.ensures.read) c.from_residual-in_err-goal.ensures.1)
 
 pub returns-in_err-sources : goal.returns-in_err-sources
 returns-in_err-sources g c =
-    goes _ (rw c.root_of.ensures at c.in_ok-clock.ensures.read) (goes _ c.in_ok-goal.ensures
+    goes _ (rw c.root_of.ensures at c.in_ok-clock.ensures.read) (goes _ (rw c.in_ok-clock.ensures.same at c.in_ok-goal.ensures.read)
     (failed _ (Run run.NoMemory) (no_accuracy _ _ _ _) c.from_residual-in_err-sources.ensures.1))
 
 pub returns-in_err-zones : goal.returns-in_err-zones
 returns-in_err-zones g c =
-    goes _ (rw c.root_of.ensures at c.in_ok-clock.ensures.read) (goes _ c.in_ok-goal.ensures
-    (failed _ _ (rw (c.in_ok-clock.ensures.same, c.in_ok-sources.ensures, c.as_slice.ensures.value) at c.in_err-zones.ensures)
+    goes _ (rw c.root_of.ensures at c.in_ok-clock.ensures.read) (goes _ (rw c.in_ok-clock.ensures.same at c.in_ok-goal.ensures.read)
+    (failed _ _ (rw (c.in_ok-goal.ensures.same, c.in_ok-clock.ensures.same, c.in_ok-sources.ensures, c.as_slice.ensures.value) at c.in_err-zones.ensures)
     c.from_residual-in_err-zones.ensures.1))
 
 pub returns-in_err-form : goal.returns-in_err-form
 returns-in_err-form g c =
-    goes _ (rw c.root_of.ensures at c.in_ok-clock.ensures.read) (goes _ c.in_ok-goal.ensures
-    (goes _ (rw (c.in_ok-clock.ensures.same, c.in_ok-sources.ensures, c.as_slice.ensures.value) at c.in_ok-zones.ensures)
+    goes _ (rw c.root_of.ensures at c.in_ok-clock.ensures.read) (goes _ (rw c.in_ok-clock.ensures.same at c.in_ok-goal.ensures.read)
+    (goes _ (rw (c.in_ok-goal.ensures.same, c.in_ok-clock.ensures.same, c.in_ok-sources.ensures, c.as_slice.ensures.value) at c.in_ok-zones.ensures)
     (failed _ _ c.in_err-form.ensures c.from_residual-in_err-form.ensures.1)))
 
 pub returns-in_err-skipped : goal.returns-in_err-skipped
 returns-in_err-skipped g c =
-    goes _ (rw c.root_of.ensures at c.in_ok-clock.ensures.read) (goes _ c.in_ok-goal.ensures
-    (goes _ (rw (c.in_ok-clock.ensures.same, c.in_ok-sources.ensures, c.as_slice.ensures.value) at c.in_ok-zones.ensures)
+    goes _ (rw c.root_of.ensures at c.in_ok-clock.ensures.read) (goes _ (rw c.in_ok-clock.ensures.same at c.in_ok-goal.ensures.read)
+    (goes _ (rw (c.in_ok-goal.ensures.same, c.in_ok-clock.ensures.same, c.in_ok-sources.ensures, c.as_slice.ensures.value) at c.in_ok-zones.ensures)
     (goes _ (rw (c.unnamed_zone-unnamed.ensures, c.origin-origin.ensures) at c.in_ok-form.ensures)
     (failed _ (Run run.NoMemory) refl c.from_residual-in_err-skipped.ensures.1))))
 
 pub returns-then-is_stopped : goal.returns-then-is_stopped
 returns-then-is_stopped g c =
-    goes _ (rw c.root_of.ensures at c.in_ok-clock.ensures.read) (goes _ c.in_ok-goal.ensures
-    (goes _ (rw (c.in_ok-clock.ensures.same, c.in_ok-sources.ensures, c.as_slice.ensures.value) at c.in_ok-zones.ensures)
+    goes _ (rw c.root_of.ensures at c.in_ok-clock.ensures.read) (goes _ (rw c.in_ok-clock.ensures.same at c.in_ok-goal.ensures.read)
+    (goes _ (rw (c.in_ok-goal.ensures.same, c.in_ok-clock.ensures.same, c.in_ok-sources.ensures, c.as_slice.ensures.value) at c.in_ok-zones.ensures)
     (goes _ (rw (c.unnamed_zone-unnamed.ensures, c.origin-origin.ensures) at c.in_ok-form.ensures)
     (goes _ (rw (c.in_ok-sources.ensures, c.as_slice.ensures.value) at c.in_ok-skipped.ensures.errors)
     (goes _ (rest_stopped _ _ _ _ (rw (c.is_stopped.ensures, c.as_slice-2.ensures.value) at c.if-is_stopped.true))
@@ -49,8 +49,8 @@ returns-then-is_stopped g c =
 
 pub returns-in_err-outcome : goal.returns-in_err-outcome
 returns-in_err-outcome g c =
-    goes _ (rw c.root_of.ensures at c.in_ok-clock.ensures.read) (goes _ c.in_ok-goal.ensures
-    (goes _ (rw (c.in_ok-clock.ensures.same, c.in_ok-sources.ensures, c.as_slice.ensures.value) at c.in_ok-zones.ensures)
+    goes _ (rw c.root_of.ensures at c.in_ok-clock.ensures.read) (goes _ (rw c.in_ok-clock.ensures.same at c.in_ok-goal.ensures.read)
+    (goes _ (rw (c.in_ok-goal.ensures.same, c.in_ok-clock.ensures.same, c.in_ok-sources.ensures, c.as_slice.ensures.value) at c.in_ok-zones.ensures)
     (goes _ (rw (c.unnamed_zone-unnamed.ensures, c.origin-origin.ensures) at c.in_ok-form.ensures)
     (goes _ (rw (c.in_ok-sources.ensures, c.as_slice.ensures.value) at c.in_ok-skipped.ensures.errors)
     (failed _ _ (rest_failed _ _ _ _ _ (rw (c.is_stopped.ensures, c.as_slice-2.ensures.value) at c.if-is_stopped.false)
@@ -60,8 +60,8 @@ returns-in_err-outcome g c =
 
 pub returns : goal.returns
 returns g c =
-    goes _ (rw c.root_of.ensures at c.in_ok-clock.ensures.read) (goes _ c.in_ok-goal.ensures
-    (goes _ (rw (c.in_ok-clock.ensures.same, c.in_ok-sources.ensures, c.as_slice.ensures.value) at c.in_ok-zones.ensures)
+    goes _ (rw c.root_of.ensures at c.in_ok-clock.ensures.read) (goes _ (rw c.in_ok-clock.ensures.same at c.in_ok-goal.ensures.read)
+    (goes _ (rw (c.in_ok-goal.ensures.same, c.in_ok-clock.ensures.same, c.in_ok-sources.ensures, c.as_slice.ensures.value) at c.in_ok-zones.ensures)
     (goes _ (rw (c.unnamed_zone-unnamed.ensures, c.origin-origin.ensures) at c.in_ok-form.ensures)
     (goes _ (rw (c.in_ok-sources.ensures, c.as_slice.ensures.value) at c.in_ok-skipped.ensures.errors)
     (goes _ (rest_planned _ _ _ _ _ (rw (c.is_stopped.ensures, c.as_slice-2.ensures.value) at c.if-is_stopped.false)

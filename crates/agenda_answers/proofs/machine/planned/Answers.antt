@@ -5,7 +5,7 @@ use Rattle.agenda_faults.specs.declared.faults.RunFault.TheVariants.{NoMemory}
 use Rattle.agenda_commands.specs.Form.{AnswersForm}
 use Rattle.agenda_inputs.specs.Steps.{goes, stops}
 use Rattle.agenda_inputs.proofs.StepLemmas.{failed}
-use Rattle.agenda_commands.specs.Goal.{finds_start}
+use Rattle.agenda_commands.specs.Goal.{finds_any}
 use Rattle.agenda_answers.proofs.MachineLemmas.{first_error, lent_files, remark_same, said_parts}
 use Rattle.agenda_answers.proofs.OutcomeLemmas.{found_parts, settled_failure, settled_parts}
 use Rattle.agenda_answers.proofs.machine.planned.Goals as goal
@@ -38,7 +38,7 @@ returns g c =
     let Answers = AnswersForm (option_map (λ f. f.items) c.in_ok-files.files) c.args.form in
     let made = c.prepare_remarked-made in
     let said = said_parts c.args.goal.now c.args.kept made.result c.in_ok-made.made made.ensures.remark c.in_ok-made.ensures in
-    let found = found_parts (finds_start c.args.goal.now c.args.kept) made.result c.in_ok-made.made made.ensures.finds c.in_ok-made.ensures in
+    let found = found_parts (finds_any c.args.goal.now c.args.kept) made.result c.in_ok-made.made made.ensures.finds c.in_ok-made.ensures in
     goes _ (goes _ c.in_ok-files.ensures (settled_parts Answers c.args.goal.now (Ok c.args.kept) made.result c.in_ok-made.made
     (rw files at made.ensures.answer) c.in_ok-made.ensures))
     (goes _ (remark_same c.args.goal.now _ _ _ _ _ _ _ c.in_ok-remark.ensures

@@ -10,3 +10,7 @@ returns-in-Upcoming-clause-text g c = rw c.in-Upcoming.is c.write_upcoming.ensur
 
 pub returns-in-Quiet-clause-text : goal.returns-in-Quiet-clause-text
 returns-in-Quiet-clause-text g c = rw c.in-Quiet.is (rw (sym c.from.ensures) c.write_quiet.ensures.text)
+
+pub returns-in-Changes-clause-text : goal.returns-in-Changes-clause-text
+returns-in-Changes-clause-text g c =
+    rw c.in-Changes.is (rw (c.agenda.ensures, c.deref-in-Changes.ensures.value) at c.write_changes.ensures.text)

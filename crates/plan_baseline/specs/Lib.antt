@@ -1,0 +1,5 @@
+pub mod Causes
+pub mod Line
+pub mod ReadBack
+pub mod Reading
+pub mod Times

@@ -1,0 +1,5 @@
+pub mod Changes
+pub mod Matching
+pub mod Lines
+pub mod Laws
+pub mod Texts

@@ -1,0 +1,21 @@
+//! What changed between an agenda that was written earlier and one that was made now.
+//!
+//! The earlier agenda comes from plan_baseline, and the new one from plan_collect. Read `compare` first: it finds the starts
+//! that only one of them has, by the matches of `matching`. `change` has what is said of such a start. `job_lines` has what
+//! the lines of a new agenda say of each job, and `new_lines` its starts with these. `lines` writes the changes, as text or as
+//! JSON. `laws` has the laws.
+#![tactic(auto)]
+
+mod change;
+mod compare;
+mod job_lines;
+mod laws;
+mod lines;
+mod matching;
+mod new_lines;
+
+pub use change::{Change, ChangeKind};
+pub use compare::changes;
+pub use job_lines::JobLines;
+pub use laws::{changes_are_differences, no_changes_if_same};
+pub use lines::write_changes;
