@@ -10,6 +10,7 @@ ghost use Rattle.plan_baseline.specs.Reading.{AreReadAfter, head_of, IsFaultOf, 
 use crate::fault::BaselineFault;
 use crate::lines::{Header, Place, read_header, read_line};
 use crate::listed::Listed;
+use crate::times::KnownTime;
 use plan_next::Span;
 use std::alloc::Global;
 use std::marker::Model;
@@ -105,9 +106,10 @@ fn places_of(alloc: Global, text: &[u8], header: Header) -> Result<Vec<Place>, B
     ensures fault { IfErr result (IsFaultOf (λ number. AreReadAfter (head_of header) (drop header.start text.now) (Err number))) }
 {
     let mut places = Vec::new(alloc);
+    let mut known = KnownTime::first();
     let (mut at, mut from) = (header.start, header.span.since());
     for number in 0..header.count {
-        let Some(place) = read_line(text, at, from, header.span.upto()) else {
+        let Some(place) = read_line(text, at, from, header.span.upto(), &mut known) else {
             return Err(BaselineFault::BadLine(number + 2));
         };
         places.push(place)?;

@@ -8,7 +8,7 @@ ghost use Rattle.plan_baseline.specs.Line.{Line, is_within, line_at, line_of, pl
 ghost use Rattle.plan_baseline.specs.Reading.{AreBounds, Head, IsCount, IsHeader, IsHeadRead, IsLine, IsLineRead, columns, first_line, head_of, is_mark};
 
 use crate::listed::Listed;
-use crate::times::read_time;
+use crate::times::{KnownTime, read_time};
 use itoa::Buffer as Digits;
 use memchr::memchr;
 use plan_collect::MOST_ENTRIES;
@@ -133,7 +133,13 @@ fn read_count(text: &[u8]) -> Option<u32>
 }
 
 /// Returns the place of the line of a text that starts at `at`, which is that of a start from one second on and before another.
-pub(crate) fn read_line(text: &[u8], at: usize, from: u64, upto: u64) -> Option<Place>
+pub(crate) fn read_line<'a>(
+    text: &'a [u8],
+    at: usize,
+    from: u64,
+    upto: u64,
+    known: &mut KnownTime<'a>,
+) -> Option<Place>
     requires { at ≤ length text.now }
     ensures read { IsLineRead from upto (drop at text.now) (option_map (λ place. (line_at text.now place, drop (place.end + 1) text.now)) result) }
     ensures within { IfSome result (λ place. IsTrue (is_within (length text.now) place)) }
@@ -141,19 +147,19 @@ pub(crate) fn read_line(text: &[u8], at: usize, from: u64, upto: u64) -> Option<
     let Some((line, rest)) = first_line(&text[at..]) else {
         return None;
     };
-    let Some(listed) = listed(line, from, upto) else {
+    let Some(listed) = listed(line, from, upto, known) else {
         return None;
     };
     Some(Place::of_line(&listed, text.len() - rest.len() - 1))
 }
 
 // Returns the start of a line, which is from one second on and before another.
-fn listed(line: &[u8], from: u64, upto: u64) -> Option<Listed<'_>>
+fn listed<'a>(line: &'a [u8], from: u64, upto: u64, known: &mut KnownTime<'a>) -> Option<Listed<'a>>
     ensures some { IfSome result (λ listed. IsLine from upto line.now (line_of listed)) }
     ensures none { IfNone result ((start : Line) → ¬ (IsLine from upto line.now start)) }
 {
     let (time, job, runs) = columns(line)?;
-    let Some(second) = read_time(time) else {
+    let Some(second) = known.read(time) else {
         return None;
     };
     if second < from || second >= upto {

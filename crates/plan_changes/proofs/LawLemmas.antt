@@ -16,10 +16,9 @@ use Rattle.plan_changes.specs.declared.change.ChangeKind.{ChangeKind}
 use Rattle.plan_changes.specs.declared.change.ChangeKind.TheVariants.{Added, Removed}
 use Rattle.plan_changes.specs.Changes.{AreChanges, change_at, change_by, changes_of, copies, is_lacking, is_same, kind_number}
 use Rattle.plan_changes.specs.Laws.{ChangesAreDifferences, NoChangesIfSame, is_change, is_start, times_changed}
-use Rattle.plan_changes.specs.Matching.{line_in, no_line}
 use Rattle.plan_changes.proofs.CompareLemmas.{before_more, changes_before}
 use Rattle.plan_changes.proofs.CountLemmas.{count_cons, count_push, fewer_of_all, less_before, times}
-use Rattle.plan_changes.proofs.MatchingLemmas.{same_copies}
+use Rattle.plan_changes.proofs.CompareLemmas.{line_in, no_line, same_copies}
 
 -- ---- the changes of one kind
 

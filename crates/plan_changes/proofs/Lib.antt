@@ -1,6 +1,7 @@
 pub mod JobLemmas
 pub mod CountLemmas
-pub mod MatchingLemmas
+pub mod KeyLemmas
+pub mod TextLemmas
 pub mod CompareLemmas
 pub mod LawLemmas
 pub mod ChangesRows

@@ -1,5 +1,6 @@
 pub mod Changes
-pub mod Matching
+pub mod Counts
+pub mod Keys
 pub mod Lines
 pub mod Laws
 pub mod Texts

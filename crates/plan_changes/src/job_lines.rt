@@ -1,6 +1,6 @@
 //! What the lines of an agenda say of each job.
 
-ghost use Rattle.std.specs.Prelude.{◌≡◌, IfOk, map};
+ghost use Rattle.std.specs.Prelude.{◌≡◌, IfOk, length, map};
 ghost use Rattle.plan_changes.specs.Lines.{job_texts, texts_at};
 
 use plan_rules::{Job, Jobs};
@@ -39,8 +39,15 @@ impl JobLines {
         Ok(JobLines { texts })
     }
 
-    // Returns the name of the job with a number, and what it runs. Both are empty if there is no such job.
-    pub(crate) fn get(&self, number: usize) -> (&[u8], &[u8])
+    /// Returns the number of jobs.
+    pub fn len(&self) -> usize
+        ensures { result ≡ length self.now }
+    {
+        self.texts.len()
+    }
+
+    /// Returns the name of the job with a number, from 0, and what it runs. Both are empty if there is no such job.
+    pub fn get(&self, number: usize) -> (&[u8], &[u8])
         ensures { (result.0.now, result.1.now) ≡ texts_at self.now number }
     {
         match self.texts.get(number) {

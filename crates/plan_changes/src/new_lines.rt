@@ -12,7 +12,7 @@ use std::marker::Model;
 
 /// The starts of an agenda, with the lines of its jobs.
 #[derive(Drop)]
-pub(crate) struct NewLines<'a> {
+pub struct NewLines<'a> {
     entries: &'a [Start],
     jobs: &'a JobLines,
 }
@@ -35,7 +35,7 @@ impl<'a> Model for NewLines<'a> {
 
 impl<'a> NewLines<'a> {
     /// Returns the starts of an agenda.
-    pub(crate) fn new(agenda: &'a Agenda, jobs: &'a JobLines) -> NewLines<'a>
+    pub fn new(agenda: &'a Agenda, jobs: &'a JobLines) -> NewLines<'a>
         ensures { result ≡ lines_of jobs.now agenda.now.entries }
     {
         NewLines {
@@ -45,14 +45,14 @@ impl<'a> NewLines<'a> {
     }
 
     /// Returns the number of starts.
-    pub(crate) fn len(&self) -> usize
+    pub fn len(&self) -> usize
         ensures { result ≡ length self.now }
     {
         self.entries.len()
     }
 
     /// Returns the start at a place, from 0.
-    pub(crate) fn get(&self, place: usize) -> Option<Listed<'_>>
+    pub fn get(&self, place: usize) -> Option<Listed<'_>>
         ensures line { option_map line_of result ≡ slice_get self.now place }
         ensures years { IfSome result (λ listed. listed.second ≤ end_second) }
     {

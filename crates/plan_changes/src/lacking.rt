@@ -1,0 +1,52 @@
+//! The starts of a list that another list lacks.
+
+ghost use Rattle.std.specs.Prelude.{◌≡◌, ◌++◌, List, OnOk, ℕ};
+ghost use Rattle.plan_baseline.specs.Line.{Line};
+ghost use Rattle.plan_changes.specs.Changes.{changes_of};
+ghost use Rattle.plan_changes.specs.Keys.{AreBelow, AreEachOnce, AreInOrder, AreKeysOf};
+
+use crate::change::{Change, ChangeKind};
+use crate::counts::Counts;
+use crate::keys::Key;
+use std::alloc::{AllocError, Global};
+
+/// Appends the changes of the starts of a list that another list lacks, in order. The lists are given by their keys.
+///
+/// # Errors
+///
+/// `AllocError` if an allocation fails.
+pub(crate) fn push_lacking(
+    alloc: Global,
+    kind: ChangeKind,
+    keys: &[Key],
+    others: &[Key],
+    texts: usize,
+    changes: &mut Vec<Change>,
+) -> Result<(), AllocError>
+    requires ordered { AreInOrder keys.now }
+    requires others_ordered { AreInOrder others.now }
+    requires below { AreBelow texts keys.now }
+    requires others_below { AreBelow texts others.now }
+    ensures { (all : List (List ℕ)) (lines other_lines : List Line) → AreEachOnce all → AreKeysOf all lines keys.now
+        → AreKeysOf all other_lines others.now
+        → OnOk result (changes.new.items ≡ changes.old.items ++ changes_of kind other_lines lines) }
+{
+    let mut counts = Counts::new(alloc, texts)?;
+    let mut at = 0;
+    for place in 0..keys.len() {
+        let key = keys[place];
+        while at < others.len() && others[at].second <= key.second {
+            counts.add(others[at]);
+            at += 1;
+        }
+        if !counts.take(key) {
+            let second = key.second;
+            changes.push(Change {
+                second,
+                kind,
+                place,
+            })?;
+        }
+    }
+    Ok(())
+}
