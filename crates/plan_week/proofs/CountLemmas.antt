@@ -1,5 +1,5 @@
 -- The table while its hours are counted: for the loops of `add_hours` and `add_entries`.
-use Rattle.std.proofs.Common.{◌≡◌, ◌≢◌, ℕ, zero, suc, ◌+◌, ◌-◌, ◌/◌, ◌<◌, ◌≤◌, Bool, true, false, cond, ◌||◌, List, get_or, length, take, Option, Some, None, refl, ap, sym, ◌∙◌, arith}
+use Rattle.std.proofs.Common.{◌≡◌, ◌≢◌, ℕ, zero, suc, ◌+◌, ◌-◌, ◌/◌, ◌%◌, ◌<◌, ◌≤◌, ◌⊎◌, Bool, true, false, cond, ◌||◌, List, [], ◌∷◌, get_or, length, take, Option, Some, None, inl, inr, refl, ap, sym, ◌∙◌, arith}
 use Rattle.std.specs.Prelude.{◌==◌, count_by}
 use Rattle.std.specs.List.{list_any, range_with_len}
 use Rattle.std.proofs.lemmas.Bool.{and_left, and_right, and_from, eq-eqb, le-leb, lt-ltb, ne_eqb, or_right}
@@ -9,9 +9,10 @@ use Rattle.plan_clock.specs.declared.row.Change.{Change}
 use Rattle.plan_collect.specs.Agenda.{Planned}
 use Rattle.plan_next.specs.Span.{Bounds}
 use Rattle.plan_week.specs.Hours.{hour_at}
-use Rattle.plan_week.specs.Table.{days_by, days_with, shown_in, with_starts}
+use Rattle.plan_week.specs.Table.{changed_at, day_with, days_after, days_by, days_with, found_at, no_day, shown_in, with_starts}
 use Rattle.plan_week.specs.Week.{count_of, has_hour, is_counted, is_inside, starts_in}
-use Rattle.plan_week.proofs.TableLemmas.{days_with-days_by}
+use Rattle.plan_week.specs.declared.day.Day.{Day}
+use Rattle.plan_week.proofs.TableLemmas.{days_with-days_by, found_at-days_by, length-days_by}
 
 -- ---- ranges in which some number passes a test
 
@@ -185,3 +186,86 @@ entry_inside clock span entries i first count hour entry lt at low high is from 
         ap (is_counted clock span k) (sym at) ∙ and_right _ _ (ne_eqb (hour_at clock entry.0) k (λ e. other (sym e ∙ sym is))) in
         let none = count_by_more_no (is_counted clock span k) entries i entry lt not in
         λ j. cond (has_hour clock span k) (Some (sym none j)) None
+
+-- ---- starts that are added at once
+
+changed_twice :
+    {X : Type 0} (f g h : X → X) (place : ℕ) (xs : List X) → ((x : X) → g (f x) ≡ h x) →
+    changed_at g place (changed_at f place xs) ≡ changed_at h place xs
+changed_twice f g h place [] same = refl
+changed_twice f g h zero (x ∷ xs) same = (λ i. same x i ∷ xs)
+changed_twice {X} f g h (suc place) (x ∷ xs) same = ap (λ (ys : List X). x ∷ ys) (changed_twice f g h place xs same)
+
+day_twice : (hour n : ℕ) (day : Day) → day_with hour 1 (day_with hour n day) ≡ day_with hour (n + 1) day
+day_twice hour n day =
+    let sum : (o : Option ℕ) → with_starts 1 (with_starts n o) ≡ with_starts (n + 1) o =
+    (λ o. ap (λ (k : ℕ). Some k) (omega arith)) in
+    let hours = changed_twice (with_starts n) (with_starts 1) (with_starts (n + 1)) hour day.hours sum in
+    λ i. record day { hours = hours i }
+
+-- one more start in an hour
+pub one_after : (first hour n : ℕ) (days : List Day) → days_after first hour (n + 1) days ≡ days_with first hour 1 (days_after first hour n days)
+one_after first hour zero days = refl
+one_after first hour (suc n) days =
+    let next : suc n + 1 ≡ suc (suc n) = omega arith in
+    let sum = λ (day : Day). day_twice (hour % 24) (suc n) day ∙ ap (λ k. day_with (hour % 24) k day) next in
+    ap (λ k. days_after first hour k days) next
+    ∙ sym (changed_twice (day_with (hour % 24) (suc n)) (day_with (hour % 24) 1) (day_with (hour % 24) (suc (suc n))) (hour / 24 - first)
+    days sum)
+
+length-changed_at : {X : Type 0} (f : X → X) (place : ℕ) (xs : List X) → length (changed_at f place xs) ≡ length xs
+length-changed_at f place [] = refl
+length-changed_at f zero (x ∷ xs) = refl
+length-changed_at f (suc place) (x ∷ xs) = ap suc (length-changed_at f place xs)
+
+-- the days stay as many
+pub length-days_after : (first hour n : ℕ) (days : List Day) → length (days_after first hour n days) ≡ length days
+length-days_after first hour zero days = refl
+length-days_after first hour (suc n) days = length-changed_at (day_with (hour % 24) (suc n)) (hour / 24 - first) days
+
+hours_room :
+    (n hour : ℕ) (hours : List (Option ℕ)) →
+    (count_of (get_or hours hour None) + n ≤ count_of (get_or (changed_at (with_starts n) hour hours) hour None))
+    ⊎ (count_of (get_or hours hour None) ≡ 0)
+hours_room n hour [] = inr refl
+hours_room n zero (h ∷ hs) = inl (omega arith)
+hours_room n (suc hour) (h ∷ hs) = hours_room n hour hs
+
+days_room :
+    (n hour place : ℕ) (days : List Day) →
+    (count_of (get_or (get_or days place no_day).hours hour None) + n
+    ≤ count_of (get_or (get_or (changed_at (day_with hour n) place days) place no_day).hours hour None))
+    ⊎ (count_of (get_or (get_or days place no_day).hours hour None) ≡ 0)
+days_room n hour place [] = inr refl
+days_room n hour zero (day ∷ days) = hours_room n hour day.hours
+days_room n hour (suc place) (day ∷ days) = days_room n hour place days
+
+-- an hour has at most as many starts as it has after more of them, or has none
+pub room_after :
+    (first hour n : ℕ) (days : List Day) →
+    (count_of (found_at first hour days) + n ≤ count_of (found_at first hour (days_after first hour n days)))
+    ⊎ (count_of (found_at first hour days) ≡ 0)
+room_after first hour zero days = inl (omega arith)
+room_after first hour (suc n) days = days_room (suc n) (hour % 24) (hour / 24 - first) days
+
+-- the days of a table to which starts are still to be added
+pub pending_days :
+    (starts : ℕ → Option ℕ) (first count hour n : ℕ) (days : List Day) → days_after first hour n days ≡ days_by starts first count →
+    length days ≡ count
+pending_days starts first count hour n days is = sym (length-days_after first hour n days) ∙ ap length is ∙ length-days_by starts first count
+
+-- there is room for these starts
+pub pending_room :
+    (clock : List Change) (span : Bounds) (entries : List (ℕ × ℕ)) (i first count hour n : ℕ) (days : List Day) → n ≤ i →
+    first ≤ hour / 24 → hour / 24 < first + count →
+    days_after first hour n days ≡ days_by (starts_in clock (first_entries span entries i)) first count →
+    count_of (found_at first hour days) + n ≤ i
+pending_room clock span entries i first count hour n days few from to is =
+    let starts = starts_in clock (first_entries span entries i) in
+    let there : count_of (found_at first hour (days_after first hour n days)) ≡ count_of (starts hour) =
+    ap (λ (ds : List Day). count_of (found_at first hour ds)) is ∙ ap count_of (found_at-days_by starts first count hour from to) in
+    let most = few_starts clock span entries i hour in
+    elim (room_after first hour n days) [
+      | inl fits ↦ omega (arith, fits, there, most)
+      | inr none ↦ omega (arith, none)
+    ]

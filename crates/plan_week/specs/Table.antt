@@ -24,6 +24,11 @@ day_with hour starts day = record day { hours = changed_at (with_starts starts) 
 abbrev pub days_with : (first hour starts : ℕ) → List Day → List Day
 days_with first hour starts days = changed_at (day_with (hour % 24) starts) (hour / 24 - first) days
 
+-- the same, but no hour is changed if there are no more starts
+abbrev pub days_after : (first hour starts : ℕ) → List Day → List Day
+days_after first hour zero days = days
+days_after first hour (suc starts) days = days_with first hour (suc starts) days
+
 -- a day that isn't in the span
 abbrev pub no_day : Day
 no_day = record { number = 0; hours = [] }

@@ -16,11 +16,24 @@ const SECONDS_AN_HOUR: u64 = 3_600;
 pub(crate) struct Part {
     /// The hour, from 0 for the first hour of 1970-01-01.
     pub(crate) hour: u64,
+    /// The first second of the part.
+    pub(crate) from: u64,
     /// The end of the part: the first second after it.
     pub(crate) upto: u64,
 }
 
 impl Part {
+    /// Returns a part that has no second.
+    pub(crate) fn none() -> Part
+        ensures { (result.from ≡ 0) × (result.upto ≡ 0) }
+    {
+        Part {
+            hour: 0,
+            from: 0,
+            upto: 0,
+        }
+    }
+
     /// Returns the part that starts at a second, and ends before `end`. `passed` is a guess of how many changes of the
     /// clock are before it, and is set to that number.
     #[tactic(auto, unfolding(crate::specs::Hours::local_second))]
@@ -28,6 +41,7 @@ impl Part {
         requires before { second < end }
         requires years { end ≤ end_second }
         ensures hour { result.hour ≡ hour_at clock.now second }
+        ensures start { result.from ≡ second }
         ensures from { second < result.upto }
         ensures to { result.upto ≤ end }
         ensures same { (n : ℕ) → second ≤ n → n < result.upto → hour_at clock.now n ≡ hour_at clock.now second }
@@ -37,21 +51,10 @@ impl Part {
         let upto = hour_end(stretch.row, second);
         Part {
             hour: local_second(stretch.row, second) / SECONDS_AN_HOUR,
+            from: second,
             upto: upto.min(stretch.upto),
         }
     }
-}
-
-/// Returns the hour that a clock shows at a second, from 0 for the first hour of 1970-01-01. `passed` is a guess as in
-/// `Part::at`.
-#[tactic(auto, unfolding(crate::specs::Hours::local_second))]
-pub(crate) fn hour_at(clock: &Clock, second: u64, passed: &mut usize) -> u64
-    requires { second < end_second }
-    ensures hour { result ≡ hour_at clock.now second }
-    ensures bounded { is_bounded (row_at clock.now second) ≡ true }
-{
-    let row = clock.stretch_near(second, END_SECOND, passed).row;
-    local_second(row, second) / SECONDS_AN_HOUR
 }
 
 // Returns what the clock of a row shows at a second, as a second of UTC. A time outside the planner's years stays in UTC.

@@ -3,11 +3,11 @@
 ghost use Rattle.std.specs.Prelude.{◌≡◌, ◌+◌, ◌-◌, ◌/◌, ◌<◌, ◌≤◌, ◌^◌, ℕ, IfOk, None, length, true, vec_len};
 ghost use Rattle.plan_clock.specs.Rows.{is_bounded, row_at};
 ghost use Rattle.plan_sets.specs.Limits.{end_second};
-ghost use Rattle.plan_week.specs.Table.{days_by, days_with, first_day, found_at, shown_in, table_by};
+ghost use Rattle.plan_week.specs.Table.{days_after, days_by, days_with, first_day, found_at, shown_in, table_by};
 ghost use Rattle.plan_week.specs.Week.{AreInYears, count_of, starts_in, week_of, week_sum};
 
 use crate::day::Day;
-use crate::hours::{Part, hour_at};
+use crate::hours::Part;
 use plan_clock::Clock;
 use plan_collect::Agenda;
 use plan_sets::SECONDS_A_DAY;
@@ -71,7 +71,8 @@ impl Table {
         }
     }
 
-    // Adds a start to the hour that a clock shows at each entry of an agenda in its span.
+    // Adds a start to the hour that a clock shows at each entry of an agenda in its span. Entries that follow each other in one
+    // part of time are added at once.
     fn add_entries(&mut self, clock: &Clock, agenda: &Agenda)
         requires first { self.old.first ≡ first_day agenda.now.span }
         requires days { self.old.days.items ≡ table_by (shown_in clock.now agenda.now.span) agenda.now.span }
@@ -79,14 +80,33 @@ impl Table {
         ensures few { length agenda.now.entries < 2 ^ 64 }
     {
         let (since, upto) = (agenda.since(), agenda.upto());
-        let mut passed = 0;
         let entries = agenda.entries();
+        let mut passed = 0;
+        let mut part = Part::none();
+        let mut starts = 0;
         for entry in entries {
             let second = entry.second();
-            if since <= second && second < upto {
-                let hour = hour_at(clock, second, &mut passed);
-                self.add(hour, 1);
+            if part.from <= second && second < part.upto {
+                starts += 1;
+            } else if since <= second && second < upto {
+                self.add_starts(part.hour, starts);
+                part = Part::at(clock, second, upto, &mut passed);
+                starts = 1;
             }
+        }
+        self.add_starts(part.hour, starts);
+    }
+
+    // Adds starts to an hour, if there are any.
+    fn add_starts(&mut self, hour: u64, starts: u64)
+        requires from { 0 < starts → self.old.first ≤ hour / 24 }
+        requires to { 0 < starts → hour / 24 < self.old.first + vec_len self.old.days }
+        requires room { 0 < starts → count_of (found_at self.old.first hour self.old.days.items) + starts < 2 ^ 64 }
+        ensures first { self.new.first ≡ self.old.first }
+        ensures days { self.new.days.items ≡ days_after self.old.first hour starts self.old.days.items }
+    {
+        if starts > 0 {
+            self.add(hour, starts);
         }
     }
 }
