@@ -1,2 +1,3 @@
 mod JobLemmas
 mod ShortLemmas
+pub mod KnownLemmas

@@ -1,6 +1,9 @@
 -- The sentences of rules that are given by themselves, and of single events.
-use Rattle.std.specs.Prelude.{ℕ, Bool, true, false, List, codes, Option, None, Some, unwrap_or, Ok}
+use Rattle.std.specs.Prelude.{ℕ, Bool, true, false, ◌&&◌, List, codes, Option, None, Some, unwrap_or, Ok}
+use Rattle.std.specs.Bool.{beq}
 use Rattle.plan_grammar.specs.Event.{event_reading, zone_name}
+use Rattle.plan_match.specs.Equal.{same_set}
+use Rattle.plan_match.specs.declared.cron.CronRule.{CronRule}
 use Rattle.plan_match.specs.declared.event.Calendar.{Calendar}
 use Rattle.plan_match.specs.declared.rule.Rule.{Rule}
 use Rattle.plan_match.specs.declared.rule.Rule.TheVariants as rule
@@ -41,3 +44,13 @@ asked_sentence zones (Cron text) = do
 asked_sentence zones (Event text) = do
   event ← event_reading zones text
   Ok (event_sentence event text)
+
+-- two cron rules have the same fields; their clocks may differ
+abbrev pub same_fields : CronRule → CronRule → Bool
+same_fields a b =
+    same_set a.minutes b.minutes
+    && (same_set a.hours b.hours
+    && (same_set a.month_days b.month_days
+    && (same_set a.months b.months
+    && (same_set a.week_days b.week_days
+    && (beq a.month_days_restricted b.month_days_restricted && beq a.week_days_restricted b.week_days_restricted)))))

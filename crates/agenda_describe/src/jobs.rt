@@ -3,7 +3,7 @@
 ghost use Rattle.std.specs.Prelude.{◌≡◌, IfOk, map, option_map};
 ghost use Rattle.agenda_describe.specs.Jobs.{bytes_of_timer, described, is_timer_named, job_sentence, rule_sentence};
 
-use crate::rule::crontab_sentence;
+use crate::known::KnownRules;
 use crate::timer::timer_sentence;
 use agenda_sources::{Source, Sources};
 use agenda_table::runs_of;
@@ -55,10 +55,11 @@ impl Descriptions {
     ) -> Result<Descriptions, AllocError>
         ensures { IfOk result (λ descriptions. descriptions ≡ map (described zones.now sources.now) jobs.now) }
     {
+        let mut known = KnownRules::new(alloc);
         let mut found = Vec::with_capacity(alloc, jobs.len())?;
         for number in 0..jobs.len() {
             if let Some(job) = jobs.get(number) {
-                found.push(described(alloc, job, sources, zones)?)?;
+                found.push(described(alloc, job, &mut known, sources, zones)?)?;
             }
         }
         Ok(Descriptions { jobs: found })
@@ -73,15 +74,16 @@ impl Descriptions {
 }
 
 // Describes a job.
-fn described(
+fn described<'a>(
     alloc: Global,
-    job: &Job,
+    job: &'a Job,
+    known: &mut KnownRules<'a>,
     sources: &Sources,
     zones: &EventZones,
 ) -> Result<DescribedJob, AllocError>
     ensures { IfOk result (λ one. one ≡ described zones.now sources.now job.now) }
 {
-    let rule = job_sentence(alloc, job, sources, zones)?;
+    let rule = job_sentence(alloc, job, known, sources, zones)?;
     let user = match job.user() {
         Some(user) => Some(copy_of(alloc, user)?),
         None => None,
@@ -95,30 +97,36 @@ fn described(
     })
 }
 
-// Returns a copy of a text.
-fn copy_of(alloc: Global, text: &str) -> Result<Text, AllocError>
+/// Returns a copy of a text.
+///
+/// # Errors
+///
+/// `AllocError` if an allocation fails.
+pub(crate) fn copy_of(alloc: Global, text: &str) -> Result<Text, AllocError>
     ensures { IfOk result (λ copy. copy ≡ text.now) }
 {
     Ok(Text::new(String::from_str(alloc, text)?))
 }
 
 // Returns the sentence of a job.
-fn job_sentence(
+fn job_sentence<'a>(
     alloc: Global,
-    job: &Job,
+    job: &'a Job,
+    known: &mut KnownRules<'a>,
     sources: &Sources,
     zones: &EventZones,
 ) -> Result<Text, AllocError>
     ensures { IfOk result (λ text. text ≡ job_sentence zones.now sources.now job.now) }
 {
     let bytes = bytes_of_timer(sources.as_slice(), job.name());
-    rule_sentence(alloc, job.rule(), bytes, zones)
+    rule_sentence(alloc, job.rule(), known, bytes, zones)
 }
 
 // Returns the sentence of a rule. That of events is the one of the timer with these bytes.
-fn rule_sentence(
+fn rule_sentence<'a>(
     alloc: Global,
-    rule: &Rule,
+    rule: &'a Rule,
+    known: &mut KnownRules<'a>,
     bytes: &[u8],
     zones: &EventZones,
 ) -> Result<Text, AllocError>
@@ -126,7 +134,7 @@ fn rule_sentence(
 {
     match rule {
         Rule::Events(_) => timer_sentence(alloc, bytes, zones),
-        Rule::Cron(_) | Rule::Never => crontab_sentence(alloc, rule),
+        Rule::Cron(_) | Rule::Never => known.sentence(alloc, rule),
     }
 }
 

@@ -437,3 +437,9 @@ years_said_has test y low high = go (list_all test (range_with_len first_year ye
         some_have (if b then None else Some (values_said (members test first_year year_count))) y ≡ test y
     go true all = sym (all_pass test first_year year_count y all low (omega arith))
     go false some = values_said_have (members test first_year year_count) y ∙ members_have test first_year year_count y low (omega arith)
+
+-- whole months are all months
+pub months_whole : (months : List ℕ) → is_whole 1 12 months ≡ true → months_said months ≡ AllMonths
+months_whole [] whole = absurd (cc)
+months_whole (v ∷ vs) whole =
+    ap (λ b. if b then AllMonths else (if is_run (v ∷ vs) then MonthRun (month_of v) (month_of (last_of v vs)) else month_list (v ∷ vs))) whole

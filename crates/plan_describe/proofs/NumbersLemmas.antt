@@ -1,6 +1,6 @@
 -- What is said of numbers has just these numbers.
 use Rattle.std.proofs.Common.{◌≡◌, ℕ, ◌+◌, ◌-◌, ◌*◌, ◌%◌, ◌<◌, ◌≤◌, Bool, true, false, ◌&&◌, ◌||◌, ◌==◌, nat_le, if◌then◌else◌, List, [], ◌∷◌, ◌++◌, refl, ap, sym, ◌∙◌, arith, length, inl, inr, append_assoc, cond, filter, zero, suc}
-use Rattle.std.specs.List.{list_any, flat_map, range_with_len}
+use Rattle.std.specs.List.{list_all, list_any, flat_map, range_with_len}
 use Rattle.std.proofs.lemmas.Bool.Decides.{nat_tests}
 use Rattle.std.proofs.lemmas.Bool.{cases_lt}
 use Rattle.std.proofs.Math.Nat.{add-mod_right, mod-eq_of_lt, mod-one}
@@ -270,3 +270,102 @@ members_have test first count u low high = any_in_range test first count u ∙ a
   where
     among : (first count u : ℕ) → first ≤ u → u < first + count → is_among first count u ≡ true
     among first count u low high = grind (arith, nat_tests)
+
+-- without a member in the range there is none
+pub members_none : (test : ℕ → Bool) (first count : ℕ) → ((u : ℕ) → first ≤ u → u < first + count → test u ≡ false) → members test first count ≡ []
+members_none test first zero none = refl
+members_none test first (suc n) none =
+    rw (none first (omega arith) (omega arith)) (members_none test (first + 1) n (λ u low high. none u (omega arith) (omega arith)))
+
+-- the members are the first one, and those after it
+pub members_next :
+    (test : ℕ → Bool) (first count v rest : ℕ) → first ≤ v → v < first + count → test v ≡ true →
+    ((u : ℕ) → first ≤ u → u < v → test u ≡ false) → rest ≡ first + count - (v + 1) →
+    members test first count ≡ v ∷ members test (v + 1) rest
+members_next test first zero v rest low high is none left = absurd (omega arith)
+members_next test first (suc n) v rest low high is none left =
+    elim (cases_lt first v) as (λ _. members test first (suc n) ≡ v ∷ members test (v + 1) rest) [
+      | inl less ↦
+          rw (none first (omega arith) less)
+          (members_next test (first + 1) n v rest (omega arith) (omega arith) is (λ u from to. none u (omega arith) to) (omega arith))
+      | inr over ↦
+          let same : first ≡ v = omega arith in
+          let all : n ≡ rest = omega arith in
+          let here : test first ≡ true = ap test same ∙ is in
+          rw here (λ i. same i ∷ members test (same i + 1) (all i))
+    ]
+
+-- a range whose first number passes, or doesn't
+pub all_step : (test : ℕ → Bool) (v count rest : ℕ) (b : Bool) → test v ≡ b → count ≡ suc rest →
+    list_all test (range_with_len v count) ≡ (b && list_all test (range_with_len (v + 1) rest))
+all_step test v count rest b is more = rw more (rw is refl)
+
+pub all_done : (test : ℕ → Bool) (v count : ℕ) → count ≡ 0 → list_all test (range_with_len v count) ≡ true
+all_done test v count none = rw none refl
+
+-- a list whose first number is past the next one doesn't go on from it
+late : (test : ℕ → Bool) (v w count more : ℕ) → v + 1 < w → 0 < more →
+    (is_spaced 1 v (members test w count) && (last_of v (members test w count) == v + more)) ≡ false
+late test v w zero more gap some = grind (arith, nat_tests)
+late test v w (suc n) more gap some = go (test w) (late test v (w + 1) n more (omega arith) some)
+  where
+    far : (v w : ℕ) (a b : Bool) → v + 1 < w → (((v + 1 == w) && a) && b) ≡ false
+    far v w a b gap = grind (arith, nat_tests)
+
+    go :
+        (b : Bool) → (is_spaced 1 v (members test (w + 1) n) && (last_of v (members test (w + 1) n) == v + more)) ≡ false →
+        (is_spaced 1 v (cond b (w ∷ members test (w + 1) n) (members test (w + 1) n))
+        && (last_of v (cond b (w ∷ members test (w + 1) n) (members test (w + 1) n)) == v + more))
+        ≡ false
+    go true later = far v w (is_spaced 1 w (members test (w + 1) n)) (last_of w (members test (w + 1) n) == v + more) gap
+    go false later = later
+
+-- the members after a number are all that follow it exactly if all of these pass the test
+run_all : (test : ℕ → Bool) (v count : ℕ) →
+    (is_spaced 1 v (members test (v + 1) count) && (last_of v (members test (v + 1) count) == v + count)) ≡ list_all test (range_with_len (v + 1) count)
+run_all test v zero = grind (arith, nat_tests)
+run_all test v (suc n) = go (test (v + 1)) (run_all test (v + 1) n)
+  where
+    near : (v n last : ℕ) (a : Bool) → (((v + 1 == v + 1) && a) && (last == v + suc n)) ≡ (a && (last == (v + 1) + n))
+    near v n last a = grind (arith, nat_tests)
+
+    go :
+        (b : Bool) →
+        (is_spaced 1 (v + 1) (members test (v + 1 + 1) n) && (last_of (v + 1) (members test (v + 1 + 1) n) == (v + 1) + n))
+        ≡ list_all test (range_with_len (v + 1 + 1) n) →
+        (is_spaced 1 v (cond b ((v + 1) ∷ members test (v + 1 + 1) n) (members test (v + 1 + 1) n))
+        && (last_of v (cond b ((v + 1) ∷ members test (v + 1 + 1) n) (members test (v + 1 + 1) n)) == v + suc n))
+        ≡ (b && list_all test (range_with_len (v + 1 + 1) n))
+    go true later =
+        near v n (last_of (v + 1) (members test (v + 1 + 1) n)) (is_spaced 1 (v + 1) (members test (v + 1 + 1) n)) ∙ later
+    go false later = late test v (v + 1 + 1) n (suc n) (omega arith) (omega arith)
+
+past_first : (test : ℕ → Bool) (first last w count : ℕ) → first < w → is_whole first last (members test w count) ≡ false
+past_first test first last w zero gap = refl
+past_first test first last w (suc n) gap = go (test w) (past_first test first last (w + 1) n (omega arith))
+  where
+    apart : (first w : ℕ) (b : Bool) → first < w → ((w == first) && b) ≡ false
+    apart first w b gap = grind (arith, nat_tests)
+
+    go :
+        (b : Bool) → is_whole first last (members test (w + 1) n) ≡ false →
+        is_whole first last (cond b (w ∷ members test (w + 1) n) (members test (w + 1) n)) ≡ false
+    go true later = apart first w (is_spaced 1 w (members test (w + 1) n) && (last_of w (members test (w + 1) n) == last)) gap
+    go false later = later
+
+-- the members are whole exactly if all numbers of the range pass the test
+pub whole_members : (test : ℕ → Bool) (first count last : ℕ) → 0 < count → last + 1 ≡ first + count →
+    is_whole first last (members test first count) ≡ list_all test (range_with_len first count)
+whole_members test first zero last some end = absurd (omega arith)
+whole_members test first (suc n) last some end = go (test first)
+  where
+    same : (first last n other : ℕ) (a : Bool) → last + 1 ≡ first + suc n → ((first == first) && (a && (other == last))) ≡ (a && (other == first + n))
+    same first last n other a end = grind (arith, nat_tests)
+
+    go :
+        (b : Bool) →
+        is_whole first last (cond b (first ∷ members test (first + 1) n) (members test (first + 1) n))
+        ≡ (b && list_all test (range_with_len (first + 1) n))
+    go true =
+        same first last n (last_of first (members test (first + 1) n)) (is_spaced 1 first (members test (first + 1) n)) end ∙ run_all test first n
+    go false = past_first test first last (first + 1) n (omega arith)

@@ -1,5 +1,5 @@
 -- How numbers are said (agenda). A list of numbers is ascending.
-use Rattle.std.specs.Prelude.{ℕ, ◌+◌, ◌-◌, Bool, true, false, ◌&&◌, ◌==◌, nat_le, if◌then◌else◌, List, [], ◌∷◌, filter, length}
+use Rattle.std.specs.Prelude.{◌≡◌, ℕ, ◌+◌, ◌-◌, ◌<◌, ◌≤◌, Bool, true, false, ◌&&◌, ◌==◌, nat_le, if◌then◌else◌, List, [], ◌∷◌, filter, length, Option, Some, None}
 use Rattle.std.specs.List.{flat_map, list_any, range_with_len}
 use Rattle.plan_words.specs.declared.tree.Span.{Span}
 use Rattle.plan_words.specs.Tree.{Values, Steps, Items}
@@ -7,6 +7,11 @@ use Rattle.plan_words.specs.Tree.{Values, Steps, Items}
 -- those of the `count` numbers from `first` on that pass a test
 abbrev pub members : (ℕ → Bool) → (first count : ℕ) → List ℕ
 members test first count = filter test (range_with_len first count)
+
+-- the first number from `from` up to `end` that passes a test, or None if there is none
+abbrev pub IsFirstMember : (ℕ → Bool) → (from end : ℕ) → Option ℕ → Type 0
+IsFirstMember test from end None = (u : ℕ) → from ≤ u → u < end → test u ≡ false
+IsFirstMember test from end (Some v) = (from ≤ v) × (v < end) × (test v ≡ true) × ((u : ℕ) → from ≤ u → u < v → test u ≡ false)
 
 -- the list has a number
 abbrev pub has_number : List ℕ → ℕ → Bool

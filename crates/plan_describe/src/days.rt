@@ -3,9 +3,11 @@
 ghost use Rattle.std.specs.Prelude.{◌≡◌, IfOk, map};
 ghost use Rattle.plan_words.specs.View.{days_of, week_of};
 ghost use Rattle.plan_describe.specs.DaysSaid.{both_by, both_said, days_said, either_said, nth_week, week_by, week_round, week_run, week_said, weekday_of};
+ghost use Rattle.plan_describe.specs.Said.{set_members};
 
 use crate::dates::{dates_said, nth_week};
-use crate::numbers::{is_whole, runs};
+use crate::numbers::{has_all, is_whole, members, runs};
+use plan_sets::ValueSet;
 use plan_words::{Days, Span, Week, Weekday};
 use std::alloc::{AllocError, Global};
 
@@ -19,10 +21,10 @@ pub(crate) fn days_said(
     alloc: Global,
     either: bool,
     from_end: bool,
-    days: &[u16],
+    days: &ValueSet,
     weekdays: &[u16],
 ) -> Result<Days, AllocError>
-    ensures { IfOk result (λ said. days_of said ≡ days_said either from_end days.now weekdays.now) }
+    ensures { IfOk result (λ said. days_of said ≡ days_said either from_end (set_members days.now 1 31) weekdays.now) }
 {
     if either {
         either_said(alloc, from_end, days, weekdays)
@@ -35,15 +37,16 @@ pub(crate) fn days_said(
 fn either_said(
     alloc: Global,
     from_end: bool,
-    days: &[u16],
+    days: &ValueSet,
     weekdays: &[u16],
 ) -> Result<Days, AllocError>
-    ensures { IfOk result (λ said. days_of said ≡ either_said from_end days.now weekdays.now) }
+    ensures { IfOk result (λ said. days_of said ≡ either_said from_end (set_members days.now 1 31) weekdays.now) }
 {
-    if is_whole(1, 31, days) || is_whole(0, 6, weekdays) {
+    if has_all(days, 1, 32) || is_whole(0, 6, weekdays) {
         return Ok(Days::Any);
     }
-    let dates = dates_said(alloc, from_end, days)?;
+    let days = members(alloc, days, 1, 32)?;
+    let dates = dates_said(alloc, from_end, &days)?;
     let week = week_said(alloc, weekdays)?;
     Ok(Days::Either { dates, week })
 }
@@ -52,17 +55,23 @@ fn either_said(
 fn both_said(
     alloc: Global,
     from_end: bool,
-    days: &[u16],
+    days: &ValueSet,
     weekdays: &[u16],
 ) -> Result<Days, AllocError>
-    ensures { IfOk result (λ said. days_of said ≡ both_said from_end days.now weekdays.now) }
+    ensures { IfOk result (λ said. days_of said ≡ both_said from_end (set_members days.now 1 31) weekdays.now) }
 {
-    match (is_whole(1, 31, days), is_whole(0, 6, weekdays)) {
-        (true, true) => Ok(Days::Any),
-        (true, false) => Ok(Days::Weekdays(week_said(alloc, weekdays)?)),
-        (false, true) => Ok(Days::Dates(dates_said(alloc, from_end, days)?)),
-        (false, false) => both_by(alloc, from_end, days, weekdays),
+    let any_weekday = is_whole(0, 6, weekdays);
+    if has_all(days, 1, 32) {
+        if any_weekday {
+            return Ok(Days::Any);
+        }
+        return Ok(Days::Weekdays(week_said(alloc, weekdays)?));
     }
+    let days = members(alloc, days, 1, 32)?;
+    if any_weekday {
+        return Ok(Days::Dates(dates_said(alloc, from_end, &days)?));
+    }
+    both_by(alloc, from_end, &days, weekdays)
 }
 
 // Returns how days are said by both day of the month and weekday.

@@ -6,8 +6,9 @@ ghost use Rattle.plan_sets.specs.Limits.{first_year};
 ghost use Rattle.plan_sets.specs.Values.{has_value};
 ghost use Rattle.plan_words.specs.View.{months_of, some_values_of};
 ghost use Rattle.plan_describe.specs.DaysSaid.{month_of, months_said, year_count, years_said};
+ghost use Rattle.plan_describe.specs.Said.{set_members};
 
-use crate::numbers::{is_run, is_whole, last_of, members, values_said};
+use crate::numbers::{has_all, is_run, last_of, members, values_said};
 use plan_sets::{FIRST_YEAR, LAST_YEAR, ValueSet};
 use plan_words::{Month, Months, Values};
 use std::alloc::{AllocError, Global};
@@ -17,21 +18,23 @@ use std::alloc::{AllocError, Global};
 /// # Errors
 ///
 /// `AllocError` if an allocation fails.
-pub(crate) fn months_said(alloc: Global, months: &[u16]) -> Result<Months, AllocError>
-    ensures { IfOk result (λ said. months_of said ≡ months_said months.now) }
+#[tactic(auto, using(crate::proofs::DaysLemmas::months_whole))]
+pub(crate) fn months_said(alloc: Global, months: &ValueSet) -> Result<Months, AllocError>
+    ensures { IfOk result (λ said. months_of said ≡ months_said (set_members months.now 1 12)) }
 {
-    if let [first, more @ ..] = months {
-        if is_whole(1, 12, months) {
-            return Ok(Months::All);
-        }
-        if is_run(months) {
-            return Ok(Months::Run {
-                first: month_of(*first),
-                last: month_of(last_of(*first, more)),
-            });
-        }
+    if has_all(months, 1, 13) {
+        return Ok(Months::All);
     }
-    Ok(Months::List(month_list(alloc, months)?))
+    let months = members(alloc, months, 1, 13)?;
+    if let [first, more @ ..] = months.as_slice()
+        && is_run(&months)
+    {
+        return Ok(Months::Run {
+            first: month_of(*first),
+            last: month_of(last_of(*first, more)),
+        });
+    }
+    Ok(Months::List(month_list(alloc, &months)?))
 }
 
 // Returns the months with these numbers.

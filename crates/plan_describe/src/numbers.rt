@@ -1,7 +1,7 @@
 //! How numbers are said: as steps, or as spans. A list of numbers is ascending.
 
-ghost use Rattle.std.specs.Prelude.{◌≡◌, ◌+◌, ◌-◌, ◌++◌, ◌==◌, IfOk, OnOk};
-ghost use Rattle.plan_describe.specs.Numbers.{is_run, is_spaced, is_steps, is_whole, items, last_of, members, runs, said_run, values_said, with_number};
+ghost use Rattle.std.specs.Prelude.{◌≡◌, ◌+◌, ◌-◌, ◌<◌, ◌++◌, ◌==◌, IfOk, OnOk};
+ghost use Rattle.plan_describe.specs.Numbers.{IsFirstMember, is_run, is_spaced, is_steps, is_whole, items, last_of, members, runs, said_run, values_said, with_number};
 ghost use Rattle.plan_sets.specs.Values.{has_value};
 ghost use Rattle.plan_words.specs.View.{values_of};
 
@@ -45,9 +45,40 @@ pub(crate) fn members(
 ) -> Result<Vec<u16>, AllocError>
     ensures { IfOk result (λ found. found.items ≡ members (has_value values.now) first (end - first)) }
 {
-    (first..end)
-        .filter(|value| values.contains(*value))
-        .collect(alloc)
+    let mut found = Vec::with_capacity(alloc, usize::from(end.saturating_sub(first)))?;
+    let mut from = first;
+    while let Some(value) = next_member(values, from, end) {
+        found.push(value)?;
+        from = value + 1;
+    }
+    Ok(found)
+}
+
+/// Returns whether a set has all numbers from `first` up to `end`, without `end`.
+pub(crate) fn has_all(values: &ValueSet, first: u16, end: u16) -> bool
+    requires { first < end }
+    ensures { result ≡ is_whole first (end - 1) (members (has_value values.now) first (end - first)) }
+{
+    for value in first..end {
+        if !values.contains(value) {
+            return false;
+        }
+    }
+    true
+}
+
+// Returns the first number from `from` up to `end`, without `end`, that is in a set.
+fn next_member(values: &ValueSet, from: u16, end: u16) -> Option<u16>
+    ensures { IsFirstMember (has_value values.now) from end result }
+{
+    // In a set of neighbours this is quicker than a search.
+    if from < end && values.contains(from) {
+        return Some(from);
+    }
+    match values.first_from(from) {
+        Some(value) if value < end => Some(value),
+        _ => None,
+    }
 }
 
 /// Returns whether a list has all numbers from `first` to `last`.

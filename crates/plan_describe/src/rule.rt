@@ -27,14 +27,12 @@ pub fn describe_cron(alloc: Global, rule: &CronRule) -> Result<Description, Allo
 {
     let minutes = members(alloc, &rule.minutes, 0, 60)?;
     let hours = members(alloc, &rule.hours, 0, 24)?;
-    let month_days = members(alloc, &rule.month_days, 1, 32)?;
     let weekdays = cron_weekdays(alloc, &rule.week_days)?;
-    let months = members(alloc, &rule.months, 1, 13)?;
     let either = rule.month_days_restricted && rule.week_days_restricted;
     Ok(Description::Scheduled(Schedule {
         time: time_said(alloc, &[0], &minutes, &hours)?,
-        days: days_said(alloc, either, false, &month_days, &weekdays)?,
-        months: months_said(alloc, &months)?,
+        days: days_said(alloc, either, false, &rule.month_days, &weekdays)?,
+        months: months_said(alloc, &rule.months)?,
         years: None,
         zone: None,
     }))
@@ -64,14 +62,12 @@ pub fn describe_event(
     let seconds = members(alloc, &event.seconds, 0, 60)?;
     let minutes = members(alloc, &event.minutes, 0, 60)?;
     let hours = members(alloc, &event.hours, 0, 24)?;
-    let days = members(alloc, &event.days, 1, 32)?;
     let weekdays = event_weekdays(alloc, &event.weekdays)?;
-    let months = members(alloc, &event.months, 1, 13)?;
     let from_end = is_from_end(event.day_count);
     Ok(Description::Scheduled(Schedule {
         time: time_said(alloc, &seconds, &minutes, &hours)?,
-        days: days_said(alloc, false, from_end, &days, &weekdays)?,
-        months: months_said(alloc, &months)?,
+        days: days_said(alloc, false, from_end, &event.days, &weekdays)?,
+        months: months_said(alloc, &event.months)?,
         years: years_said(alloc, &event.years)?,
         zone,
     }))
