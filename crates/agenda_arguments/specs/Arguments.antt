@@ -136,7 +136,7 @@ jobs_in rows = record {
 unfoldable pub plan_in : List Row → Result PlanRequest ArgumentsFault
 plan_in rows = do
   since ← wanted (first_of (codes "since") rows)
-  upto ← wanted (first_of (codes "upto") rows)
+  upto ← wanted (first_of (codes "until") rows)
   sizes ← sizes_in rows
   Ok (record { since = since; upto = upto; jobs = jobs_in rows; sizes = sizes })
 
@@ -182,7 +182,7 @@ search_sizes_in rows = do
 unfoldable pub asked_by_clear : List Row → Result Ask ArgumentsFault
 asked_by_clear rows = do
   since ← wanted (first_of (codes "since") rows)
-  upto ← wanted (first_of (codes "upto") rows)
+  upto ← wanted (first_of (codes "until") rows)
   sizes ← search_sizes_in rows
   Ok (Plan (record {
     since = since;
@@ -302,11 +302,10 @@ table_in false true false = Ok table_request.Never
 table_in false false true = Ok table_request.Never
 table_in table text json = Err is_usage
 
--- whether the answer for a goal is a table, by the values: the hours of a week, a first start and changes have none (agenda)
+-- whether the answer for a goal is a table, by the values: the hours of a week and a first start have none (agenda)
 abbrev pub table_for : MachineGoal → List Row → Result TableRequest ArgumentsFault
 table_for (machine_goal.Plan span sizes view.Week) rows = Ok table_request.Never
 table_for (machine_goal.Plan span sizes view.First) rows = Ok table_request.Never
-table_for (machine_goal.Changes before sizes) rows = Ok table_request.Never
 table_for goal rows =
     table_in (is_given (codes "table") rows) (is_given (codes "text") rows) (is_given (codes "json") rows)
 

@@ -183,7 +183,7 @@ fn asked_by_clear(alloc: Global, given: &ArgMatches<'_>) -> Result<Ask, UsageFau
     ensures { Follows result (asked_by_clear (rows_of (found_of given.now))) }
 {
     let since = text_of(alloc, given, "since")?;
-    let upto = text_of(alloc, given, "upto")?;
+    let upto = text_of(alloc, given, "until")?;
     let sizes = search_sizes_of(alloc, given)?;
     let mut jobs = jobs_of(alloc, given)?;
     jobs.delays = !is_given(given, "nominal");
@@ -216,7 +216,7 @@ fn plan_of(alloc: Global, given: &ArgMatches<'_>) -> Result<PlanRequest, UsageFa
     ensures { Follows result (plan_in (rows_of (found_of given.now))) }
 {
     let since = text_of(alloc, given, "since")?;
-    let upto = text_of(alloc, given, "upto")?;
+    let upto = text_of(alloc, given, "until")?;
     let sizes = sizes_of(alloc, given)?;
     let jobs = jobs_of(alloc, given)?;
     Ok(PlanRequest {

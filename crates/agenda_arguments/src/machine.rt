@@ -324,7 +324,7 @@ fn asked_of_jobs(
     asked_of_machine(alloc, given, MachineQuestion::Jobs(jobs))
 }
 
-// Returns whether the answer for a goal is a table. The hours of a week, a first start and changes have none.
+// Returns whether the answer for a goal is a table. The hours of a week and a first start have none.
 fn table_for(
     alloc: Global,
     given: &ArgMatches<'_>,
@@ -341,7 +341,6 @@ fn table_for(
             view: PlanView::First,
             ..
         } => Ok(TableRequest::Never),
-        MachineGoal::Changes { .. } => Ok(TableRequest::Never),
         _ => table_of(alloc, given),
     }
 }

@@ -1,19 +1,22 @@
 -- The changes of an agenda: for `make_changes`. Its lines are in the order of their seconds, and it says whether there are any.
-use Rattle.std.proofs.Common.{◌≡◌, ◌∙◌, ℕ, zero, suc, ◌<◌, ◌≤◌, not, List, [], ◌∷◌, length, get_or, Ok, ap, sym, arith}
+use Rattle.std.proofs.Common.{◌≡◌, ◌∙◌, ℕ, zero, suc, ◌<◌, ◌≤◌, not, List, [], ◌∷◌, length, get_or, map, Ok, Result, ap, subst, sym, arith}
 use Rattle.std.specs.Prelude.{nat_le, ◌==◌}
 use Rattle.std.specs.List.{list_all}
 use Rattle.std.proofs.lemmas.Bool.{and_parts, leb-true}
 use Rattle.std.proofs.lemmas.List.Sorted.{length_permutation}
 use Rattle.plan_baseline.specs.Line.{Line}
 use Rattle.plan_changes.specs.Changes.{AreAscending, AreChanges, have_changed}
-use Rattle.plan_changes.specs.Lines.{lines_of}
+use Rattle.plan_changes.specs.Lines.{job_texts, lines_of}
 use Rattle.plan_changes.specs.declared.change.Change.{Change}
 use Rattle.plan_collect.specs.Agenda.{Planned}
 use Rattle.plan_rules.specs.Job.{JobParts}
 use Rattle.agenda_cover.specs.Cover.{AreFrom, AreInOrder}
 use Rattle.agenda_commands.proofs.RemarkLemmas.{planned-made}
-use Rattle.agenda_commands.specs.Goal.{agenda_lines, agenda_of_jobs, lines_of_plan}
+use Rattle.agenda_commands.specs.Goal.{AnswersPlan, agenda_lines, agenda_of_jobs, lines_of_plan}
+use Rattle.agenda_commands.specs.Table.{IsChangesTable}
 use Rattle.agenda_commands.specs.declared.goal.Planning.{Planning}
+use Rattle.agenda_commands.specs.declared.table.TableForm.{TableForm}
+use Rattle.agenda_faults.specs.declared.faults.RunFault.{RunFault}
 
 -- no line of entries is before a second that no entry is before
 line_from :
@@ -45,3 +48,18 @@ pub found :
 found before jobs planning made changes is are =
     same_count _ changes (length_permutation _ changes are.0)
     ∙ ap (λ (m : Planned). have_changed before (agenda_lines jobs m.entries)) (sym (planned-made jobs planning made is))
+
+-- the table of changes answers for the jobs that count
+pub answers_changes :
+    (form : TableForm) (before earlier : List Line) (jobs counted : List JobParts) (planning : Planning) (made : Planned)
+    (texts : List (List ℕ × List ℕ)) (text : List ℕ) → counted ≡ jobs → agenda_of_jobs counted planning ≡ Ok made →
+    texts ≡ map job_texts counted → earlier ≡ before → IsChangesTable form earlier made texts text →
+    AnswersPlan (λ made text. IsChangesTable form before made (map job_texts jobs) text) (agenda_of_jobs jobs planning) (Ok text)
+answers_changes form before earlier jobs counted planning made texts text same planned own was is =
+    subst (λ (js : List JobParts). AnswersPlan (λ made text. IsChangesTable form before made (map job_texts js) text) (agenda_of_jobs js planning) (Ok text))
+    same
+    (subst
+    (λ (plan : Result Planned RunFault). AnswersPlan (λ made text. IsChangesTable form before made (map job_texts counted) text) plan (Ok text))
+    (sym planned)
+    (subst (λ (ts : List (List ℕ × List ℕ)). IsChangesTable form before made ts text) own
+    (subst (λ (lines : List Line). IsChangesTable form lines made texts text) was is)))

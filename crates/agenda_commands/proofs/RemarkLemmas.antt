@@ -22,6 +22,7 @@ use Rattle.agenda_commands.specs.declared.goal.Goal.TheVariants as goal
 use Rattle.agenda_commands.specs.declared.goal.Planning.{Planning}
 use Rattle.agenda_commands.specs.declared.prepare.Form.{Form}
 use Rattle.agenda_commands.specs.declared.prepare.Form.TheVariants as form
+use Rattle.agenda_commands.specs.declared.table.TableForm.{TableForm}
 
 -- ---- the agenda of a plan
 
@@ -63,3 +64,12 @@ answers_gaps (form.Table table) planning least jobs planned made text same is fo
     subst
     (λ (js : List JobParts). AnswersPlan (λ (m : Planned) (t : List ℕ). IsQuietTable table least m js t) (agenda_of_jobs js planning)
     (Ok text)) same (rw is found)
+
+-- the table of gaps is their text in its form
+pub gaps_table :
+    (shape : Form) (table : TableForm) (least given : ℕ) (made : Planned) (jobs : List JobParts) (text answer : List ℕ) →
+    shape ≡ form.Table table → given ≡ least → answer ≡ text → IsQuietTable table given made jobs text → IsOfGaps shape least made jobs answer
+gaps_table shape table least given made jobs text answer is same wrote found =
+    subst (λ (s : Form). IsOfGaps s least made jobs answer) (sym is)
+    (subst (λ (n : ℕ). IsQuietTable table n made jobs answer) same
+    (subst (λ (t : List ℕ). IsQuietTable table given made jobs t) (sym wrote) found))

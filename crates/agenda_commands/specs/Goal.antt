@@ -47,11 +47,10 @@ abbrev pub valid_goal : Goal → Result (Unit {0}) RunFault
 valid_goal (goal.Quiet planning least) = if least == 0 then Err BadLeast else Ok tt
 valid_goal other = Ok tt
 
--- the answer has a table of its own. The hours of a week, a first entry alone and changes are lines in each form
+-- the answer has a table of its own. The hours of a week and a first entry alone are lines in each form
 abbrev pub has_table : Goal → Bool
 has_table (goal.Plan planning view.Week) = false
 has_table (goal.Plan planning view.First) = false
-has_table (goal.Changes planning before) = false
 has_table other = true
 
 -- the sizes of the goal's plan are valid

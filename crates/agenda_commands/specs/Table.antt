@@ -1,10 +1,16 @@
 -- What is made of jobs, by a goal, as a table. All of it is our choice (agenda).
 use Rattle.std.specs.Prelude.{◌≡◌, ℕ, min, Bool, List, ◌∷◌, chars, codes, length, map, Result, Ok, Err}
+use Rattle.agenda_changes.specs.Last.{change_text}
+use Rattle.agenda_changes.specs.Rows.{change_rows, change_times, runs_changes}
 use Rattle.agenda_downtime.specs.Last.{missed_text}
 use Rattle.agenda_downtime.specs.Rows.{downtime_rows, missed_texts, missed_times}
 use Rattle.plan_collect.specs.Agenda.{Planned}
 use Rattle.plan_collect.specs.declared.PlanView.{PlanView}
 use Rattle.plan_collect.specs.declared.PlanView.TheVariants as view
+use Rattle.plan_baseline.specs.Line.{Line}
+use Rattle.plan_changes.specs.Changes.{AreChanges}
+use Rattle.plan_changes.specs.declared.Change.{Change as StartChange}
+use Rattle.plan_changes.specs.Lines.{job_texts as line_texts, lines_of}
 use Rattle.plan_downtime.specs.Downtime.{missed_starts}
 use Rattle.plan_rules.specs.Delays.{counted}
 use Rattle.plan_rules.specs.Job.{JobParts}
@@ -51,12 +57,19 @@ IsDowntimeTable form made jobs text =
     × (text ≡ text_of_rows form (downtime_rows (look_of form dates) (missed_texts jobs (missed_starts jobs made)))
     (missed_text (look_of form dates) (missed_texts jobs (missed_starts jobs made)) made.span.since made.span.upto form.zone.name))
 
+-- this is the table of how an agenda, whose jobs have these names and run these texts, differs from an earlier one
+abbrev pub IsChangesTable : TableForm → (before : List Line) → Planned → (jobs : List (List ℕ × List ℕ)) → List ℕ → Type 0
+IsChangesTable form before made jobs text =
+    (changes : List StartChange) × AreChanges before (lines_of jobs made.entries) changes × (dates : List ℕ)
+    × AreDatesOf form.zone.clock
+    (made.span.since ∷ made.span.upto ∷ change_times (runs_changes before (lines_of jobs made.entries) changes)) dates
+    × (text ≡ text_of_rows form (change_rows (look_of form dates) (runs_changes before (lines_of jobs made.entries) changes))
+    (change_text (look_of form dates) changes made.span.since made.span.upto form.zone.name))
+
 -- this is the table of a view of an agenda of jobs; a view without a table of its own has that of all starts
 abbrev pub IsViewTable : PlanView → TableForm → (delays : Bool) → Planned → List JobParts → List ℕ → Type 0
-IsViewTable view.Starts form delays made jobs text = IsPlanTable form delays made jobs text
 IsViewTable view.Downtime form delays made jobs text = IsDowntimeTable form made jobs text
-IsViewTable view.Week form delays made jobs text = IsPlanTable form delays made jobs text
-IsViewTable view.First form delays made jobs text = IsPlanTable form delays made jobs text
+IsViewTable other form delays made jobs text = IsPlanTable form delays made jobs text
 
 -- this is the table of the next starts of jobs after a time; a time after the planner's years is shown as their end
 abbrev pub IsNextsTable : TableForm → List JobParts → (after : ℕ) → (delays : Bool) → List ℕ → Type 0
@@ -91,7 +104,7 @@ AnswersTable form (goal.Plan planning view) (Ok jobs) answer =
 AnswersTable form (goal.Upcoming after delays) (Ok jobs) (Ok text) = IsNextsTable form jobs after delays text
 AnswersTable form (goal.Upcoming after delays) (Ok jobs) (Err fault) = ⊥
 AnswersTable form (goal.Changes planning before) (Ok jobs) answer =
-    AnswersPlan (λ made text. IsPlanTable form planning.delays made (counted planning.delays jobs) text)
+    AnswersPlan (λ made text. IsChangesTable form before.lines made (map line_texts (counted planning.delays jobs)) text)
     (agenda_of_jobs (counted planning.delays jobs) planning) answer
 AnswersTable form (goal.Quiet planning least) (Ok jobs) answer =
     AnswersPlan (λ made text. IsQuietTable form least made (counted planning.delays jobs) text)
@@ -103,6 +116,7 @@ AnswersTable form (goal.Quiet planning least) (Ok jobs) answer =
 abbrev pub rows_of_table : LookParts → TableRows → List (List (List ℕ))
 rows_of_table look (rows.Plan agenda cells delays) = job_rows look delays agenda.entries cells
 rows_of_table look (rows.Downtime missed) = downtime_rows look missed
+rows_of_table look (rows.Changes changes) = change_rows look changes
 rows_of_table look (rows.Upcoming nexts cells delays) = job_rows look delays nexts cells
 rows_of_table look (rows.Quiet gaps) = gap_rows look gaps
 rows_of_table look (rows.Next starts count) = start_rows look count starts.items

@@ -112,11 +112,10 @@ impl Goal {
     {
         !matches!(
             self,
-            Goal::Changes { .. }
-                | Goal::Plan {
-                    view: PlanView::Week | PlanView::First,
-                    ..
-                }
+            Goal::Plan {
+                view: PlanView::Week | PlanView::First,
+                ..
+            }
         )
     }
 

@@ -92,7 +92,8 @@ fn make_in_form<R: Threads + Wait + Sync>(
         Form::Lines(format) => make_lines(rt, alloc, jobs, goal, format, files),
         Form::Table(form) if goal.has_table() => {
             let made = make_table(rt, alloc, jobs, goal, &form)?;
-            Ok((PreparedAnswer::new(Prepared::Table(made, form)), false))
+            let finds_any = made.finds_any;
+            Ok((PreparedAnswer::new(Prepared::Table(made, form)), finds_any))
         }
         Form::Table(form) => {
             let format = Format {

@@ -1,20 +1,26 @@
 //! What a request makes of jobs, or of a rule, as a table, before a byte of it is written.
 
-ghost use Rattle.std.specs.Prelude.{◌≡◌, Err, IfErr, IfOk, IsTrue, Ok, OnOk};
+ghost use Rattle.std.specs.Prelude.{◌≡◌, ◌==◌, Err, IfErr, IfOk, IsTrue, Ok, OnOk, false, length, not, true};
 ghost use Rattle.agenda_table.specs.Dates.{AreInYears};
-ghost use Rattle.agenda_commands.specs.Goal.{Makes, checked_sizes, sized_goal};
-ghost use Rattle.agenda_commands.specs.Table.{AnswersTable, IsDowntimeTable, IsNextsTable, IsPlanTable, IsQuietTable, IsViewTable, IsStartsTable, look_of, text_of_table};
-ghost use Rattle.agenda_commands.specs.declared.goal.Goal.TheVariants.{Plan, Quiet, Upcoming as Nexts};
+ghost use Rattle.agenda_commands.specs.Goal.{Makes, checked_sizes, finds_any, has_table, sized_goal};
+ghost use Rattle.agenda_commands.specs.Table.{AnswersTable, IsChangesTable, IsDowntimeTable, IsNextsTable, IsPlanTable, IsQuietTable, IsViewTable, IsStartsTable, look_of, text_of_table};
+ghost use Rattle.agenda_commands.specs.declared.goal.Goal.TheVariants.{Changes, Plan, Quiet, Upcoming as Nexts};
+ghost use Rattle.plan_changes.specs.Changes.{AreChanges};
+ghost use Rattle.plan_changes.specs.Lines.{lines_of};
 ghost use Rattle.plan_streams.specs.Stream.{Puts};
 
 use crate::agenda_of::make_agenda;
+use crate::earlier::Earlier;
 use crate::goal::{Goal, Planning, counted};
+use agenda_changes::{ChangeRows, change_text, dates_of_changes, write_change_table};
 use agenda_downtime::{MissedRows, dates_of_missed, missed_text, write_downtime_table};
 use agenda_faults::RunFault;
 use agenda_table::{
     Frame, GapRows, Gaps, JobCells, JobRows, Look, StartRows, after_text, dates_of_gaps,
     dates_of_jobs, dates_of_starts, span_text, write_gap_table, write_job_table, write_start_table,
 };
+use plan_baseline::Baseline;
+use plan_changes::{Change, JobLines, changes};
 use plan_collect::{Agenda, PlanView};
 use plan_downtime::missed_starts;
 use plan_rules::{Jobs, NamedZone, Text};
@@ -43,6 +49,8 @@ pub(crate) enum TableRows {
     Plan(Agenda, JobCells, bool),
     // Those of what jobs miss while the machine is down.
     Downtime(MissedRows),
+    // Those of changes from an earlier agenda.
+    Changes(ChangeRows),
     // Those of the next starts of jobs, and whether they have the latest starts.
     Upcoming(Upcoming, JobCells, bool),
     // Those of gaps.
@@ -58,9 +66,11 @@ pub(crate) struct MadeTable {
     // The dates on which times have their offset.
     dates: Vec<u64>,
     last: Text,
+    // Whether something has changed.
+    pub(crate) finds_any: bool,
 }
 
-// Makes what `goal` requests of jobs, as a table.
+// Makes what `goal` requests of jobs, as a table. The answer must have one.
 pub(crate) fn make_table<R: Threads + Wait + Sync>(
     rt: &R,
     alloc: Global,
@@ -68,7 +78,9 @@ pub(crate) fn make_table<R: Threads + Wait + Sync>(
     goal: &Goal,
     form: &TableForm,
 ) -> Result<MadeTable, RunFault>
+    requires { has_table goal.now ≡ true }
     ensures made { Makes (AnswersTable form.now goal.now (Ok jobs)) (text_of_table form.now) result }
+    ensures finds { IfOk result (λ made. made.finds_any ≡ finds_any goal.now jobs) }
 
     // These errors are found before any memory is requested.
     ensures at_once { IfErr (sized_goal goal.now) (λ fault. result ≡ Err fault) }
@@ -80,9 +92,7 @@ pub(crate) fn make_table<R: Threads + Wait + Sync>(
             Ok(table)
         }
         Goal::Quiet { planning, least } => make_quiet(rt, alloc, jobs, planning, *least, form),
-        Goal::Changes { planning, .. } => {
-            make_plan(rt, alloc, jobs, planning, PlanView::Starts, form)
-        }
+        Goal::Changes { planning, before } => make_changes(rt, alloc, jobs, planning, before, form),
     }
 }
 
@@ -96,6 +106,7 @@ fn make_plan<R: Threads + Wait + Sync>(
     form: &TableForm,
 ) -> Result<MadeTable, RunFault>
     ensures made { Makes (AnswersTable form.now (Plan planning.now view) (Ok jobs)) (text_of_table form.now) result }
+    ensures finds { IfOk result (λ made. made.finds_any ≡ false) }
     ensures at_once { IfErr (checked_sizes planning.now) (λ fault. result ≡ Err fault) }
 {
     let jobs = counted(jobs, planning.delays);
@@ -113,7 +124,8 @@ fn view_table(
     delays: bool,
     form: &TableForm,
 ) -> Result<MadeTable, AllocError>
-    ensures { IfOk result (λ made. IsViewTable view form.now delays agenda jobs.now (text_of_table form.now made)) }
+    ensures table { IfOk result (λ made. IsViewTable view form.now delays agenda jobs.now (text_of_table form.now made)) }
+    ensures finds { IfOk result (λ made. made.finds_any ≡ false) }
 {
     match view {
         PlanView::Downtime => downtime_table(alloc, &agenda, jobs, form),
@@ -121,6 +133,28 @@ fn view_table(
             plan_table(alloc, agenda, jobs, delays, form)
         }
     }
+}
+
+// Makes the table of how the agenda of jobs differs from an earlier one.
+fn make_changes<R: Threads + Wait + Sync>(
+    rt: &R,
+    alloc: Global,
+    jobs: Jobs,
+    planning: &Planning,
+    before: &Earlier,
+    form: &TableForm,
+) -> Result<MadeTable, RunFault>
+    ensures made { Makes (AnswersTable form.now (Changes planning.now before.now) (Ok jobs)) (text_of_table form.now) result }
+    ensures finds { IfOk result (λ made. made.finds_any ≡ finds_any (Changes planning.now before.now) jobs) }
+    ensures at_once { IfErr (checked_sizes planning.now) (λ fault. result ≡ Err fault) }
+{
+    let jobs = counted(jobs, planning.delays);
+    let agenda = make_agenda(rt, alloc, &jobs, planning)?;
+    let lines = JobLines::new(alloc, &jobs)?;
+    let earlier = before.agenda();
+    let changes = changes(alloc, earlier, &agenda, &lines)?;
+    let table = changes_table(alloc, &changes, earlier, &agenda, &lines, form)?;
+    Ok(table)
 }
 
 // Makes the table of the gaps of the agenda of jobs.
@@ -133,6 +167,7 @@ fn make_quiet<R: Threads + Wait + Sync>(
     form: &TableForm,
 ) -> Result<MadeTable, RunFault>
     ensures made { Makes (AnswersTable form.now (Quiet planning.now least) (Ok jobs)) (text_of_table form.now) result }
+    ensures finds { IfOk result (λ made. made.finds_any ≡ false) }
     ensures at_once { IfErr (checked_sizes planning.now) (λ fault. result ≡ Err fault) }
 {
     let jobs = counted(jobs, planning.delays);
@@ -149,7 +184,8 @@ fn plan_table(
     delays: bool,
     form: &TableForm,
 ) -> Result<MadeTable, AllocError>
-    ensures { IfOk result (λ made. IsPlanTable form.now delays agenda jobs.now (text_of_table form.now made)) }
+    ensures table { IfOk result (λ made. IsPlanTable form.now delays agenda jobs.now (text_of_table form.now made)) }
+    ensures finds { IfOk result (λ made. made.finds_any ≡ false) }
 {
     let (clock, zone) = (&form.zone.clock, form.zone.name.as_str());
     let (since, upto) = (agenda.since(), agenda.upto());
@@ -168,6 +204,7 @@ fn plan_table(
         rows: TableRows::Plan(agenda, cells, delays),
         dates,
         last: Text::new(last),
+        finds_any: false,
     })
 }
 
@@ -178,7 +215,8 @@ fn downtime_table(
     jobs: &Jobs,
     form: &TableForm,
 ) -> Result<MadeTable, AllocError>
-    ensures { IfOk result (λ made. IsDowntimeTable form.now agenda.now jobs.now (text_of_table form.now made)) }
+    ensures table { IfOk result (λ made. IsDowntimeTable form.now agenda.now jobs.now (text_of_table form.now made)) }
+    ensures finds { IfOk result (λ made. made.finds_any ≡ false) }
 {
     let (clock, zone) = (&form.zone.clock, form.zone.name.as_str());
     let (since, upto) = (agenda.since(), agenda.upto());
@@ -191,6 +229,34 @@ fn downtime_table(
         rows: TableRows::Downtime(rows),
         dates,
         last,
+        finds_any: false,
+    })
+}
+
+// Returns the table of changes from an earlier agenda to another one, whose jobs have these lines.
+fn changes_table(
+    alloc: Global,
+    changes: &[Change],
+    before: &Baseline,
+    agenda: &Agenda,
+    lines: &JobLines,
+    form: &TableForm,
+) -> Result<MadeTable, AllocError>
+    requires { AreChanges before.now.lines (lines_of lines.now agenda.now.entries) changes.now }
+    ensures table { IfOk result (λ made. IsChangesTable form.now before.now.lines agenda.now lines.now (text_of_table form.now made)) }
+    ensures finds { IfOk result (λ made. made.finds_any ≡ not (length changes.now == 0)) }
+{
+    let (clock, zone) = (&form.zone.clock, form.zone.name.as_str());
+    let (since, upto) = (agenda.since(), agenda.upto());
+    let rows = ChangeRows::new(alloc, changes, before, agenda, lines)?;
+    let dates = dates_of_changes(alloc, clock, since, upto, &rows)?;
+    let look = Look::new(clock, &dates, form.origin);
+    let last = change_text(alloc, &look, changes, since, upto, zone)?;
+    Ok(MadeTable {
+        rows: TableRows::Changes(rows),
+        dates,
+        last,
+        finds_any: !changes.is_empty(),
     })
 }
 
@@ -202,7 +268,8 @@ fn upcoming_table(
     delays: bool,
     form: &TableForm,
 ) -> Result<MadeTable, AllocError>
-    ensures { IfOk result (λ made. IsNextsTable form.now jobs.now after delays (text_of_table form.now made)) }
+    ensures table { IfOk result (λ made. IsNextsTable form.now jobs.now after delays (text_of_table form.now made)) }
+    ensures finds { IfOk result (λ made. made.finds_any ≡ false) }
 {
     let (clock, zone) = (&form.zone.clock, form.zone.name.as_str());
     let upcoming = Upcoming::new(alloc, jobs, after)?;
@@ -215,6 +282,7 @@ fn upcoming_table(
         rows: TableRows::Upcoming(upcoming, cells, delays),
         dates,
         last: Text::new(last),
+        finds_any: false,
     })
 }
 
@@ -226,7 +294,8 @@ pub(crate) fn quiet_table(
     least: u64,
     form: &TableForm,
 ) -> Result<MadeTable, AllocError>
-    ensures { IfOk result (λ made. IsQuietTable form.now least agenda.now jobs.now (text_of_table form.now made)) }
+    ensures table { IfOk result (λ made. IsQuietTable form.now least agenda.now jobs.now (text_of_table form.now made)) }
+    ensures finds { IfOk result (λ made. made.finds_any ≡ false) }
 {
     let (clock, zone) = (&form.zone.clock, form.zone.name.as_str());
     let (since, upto) = (agenda.since(), agenda.upto());
@@ -246,6 +315,7 @@ pub(crate) fn quiet_table(
         rows: TableRows::Quiet(gaps),
         dates,
         last: Text::new(last),
+        finds_any: false,
     })
 }
 
@@ -270,6 +340,7 @@ pub(crate) fn starts_table(
         rows: TableRows::Next(starts, count),
         dates,
         last: Text::new(last),
+        finds_any: false,
     })
 }
 
@@ -294,6 +365,7 @@ impl MadeTable {
             TableRows::Downtime(rows) => {
                 write_downtime_table(rows, &look, last, form.frame, out)
             }
+            TableRows::Changes(rows) => write_change_table(rows, &look, last, form.frame, out),
             TableRows::Upcoming(upcoming, jobs, delays) => {
                 let table = JobRows {
                     look: &look,

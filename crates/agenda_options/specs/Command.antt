@@ -109,14 +109,14 @@ unfoldable pub with_jobs : App → App
 with_jobs app =
     with_sources (with_format (with_each (with_zones app) (flag_option (codes "keep-going") ∷ flag_option (codes "delays") ∷ [])))
 
--- a command with the span of a plan added: `--since T --upto T`; `--until` is another name of `--upto` (agenda)
+-- a command with the span of a plan added: `--since T --until T`; `--upto` is another name of `--until` (agenda)
 unfoldable pub with_span : App → App
-with_span app = with_each app (moment_option (codes "since") ∷ with_alias (moment_option (codes "upto")) (codes "until") ∷ [])
+with_span app = with_each app (moment_option (codes "since") ∷ with_alias (moment_option (codes "until")) (codes "upto") ∷ [])
 
--- a command with the sizes of a plan added: `[--planners N] [--room N] [--limit N]`; `default` is the default of the limit (agenda)
+-- a command with the sizes of a plan added: `[--limit N] [--planners N] [--room N]`; `default` is the default of the limit (agenda)
 unfoldable pub with_sizes : App → (default : List ℕ) → App
-with_sizes app default = with_each app (number_option (codes "planners") (codes "2") ∷ number_option (codes "room") (codes "16")
-    ∷ number_option (codes "limit") default ∷ [])
+with_sizes app default = with_each app (number_option (codes "limit") default ∷ number_option (codes "planners") (codes "2")
+    ∷ number_option (codes "room") (codes "16") ∷ [])
 
 -- `next --after T`, the zones, `[--count N] (--cron TEXT or --calendar TEXT)` and the form of the output; that exactly one of `--cron`
 -- and `--calendar` is present is checked after clap's parse (agenda)
@@ -280,11 +280,11 @@ unfoldable pub machine_week : App
 machine_week = with_each (with_machine_times (codes "today") (codes "+7d") (new_app (codes "week")))
     (machine_zone_rules ++ except_option ∷ flag_option (codes "strict") ∷ flag_option (codes "json") ∷ machine_size_rules)
 
--- `machine changes BEFORE` with the machine, the zone, `[--except JOB ..]`, `[--strict]`, `[--json]` and the sizes (agenda)
+-- `machine changes BEFORE` with the machine, the zone, `[--except JOB ..]`, `[--strict]`, the form and the sizes (agenda)
 unfoldable pub machine_changes : App
 machine_changes = with_each (with_machine (new_app (codes "changes")))
-    (required_argument (codes "before") ∷ machine_zone_rules ++ except_option ∷ flag_option (codes "strict") ∷ flag_option (codes "json")
-    ∷ machine_size_rules)
+    (required_argument (codes "before") ∷ machine_zone_rules ++ except_option ∷ flag_option (codes "strict")
+    ∷ machine_form_rules ++ machine_size_rules)
 
 -- `machine next RULE` with `[--after TIME] [--count N]`, the zone and the form (agenda)
 unfoldable pub machine_next : App
@@ -329,7 +329,7 @@ app_for each.MachineDescribe = machine_describe
 abbrev pub subcommands : List Subcommand
 subcommands =
     each.Next ∷ each.Plan ∷ each.Upcoming ∷ each.Quiet ∷ each.Downtime ∷ each.Clear ∷ each.Changes ∷ each.Week ∷ each.Check
-    ∷ each.Describe ∷ each.Machine ∷ each.Steps ∷ each.Explain ∷ []
+    ∷ each.Describe ∷ each.Machine ∷ each.Explain ∷ each.Steps ∷ []
 
 -- the questions about a machine, in the order in which help lists them (agenda)
 abbrev pub questions : List Subcommand

@@ -117,8 +117,8 @@ pub fn agenda_command<'a>(alloc: Global) -> Result<Command<'a>, AllocError>
         Subcommand::Check,
         Subcommand::Describe,
         Subcommand::Machine,
-        Subcommand::Steps,
         Subcommand::Explain,
+        Subcommand::Steps,
     ];
     with_subcommands(alloc, agenda_alone(alloc)?, &subcommands)
 }
@@ -166,7 +166,7 @@ fn plan_command<'a>(alloc: Global) -> Result<Command<'a>, AllocError>
     let command = new_subcommand(alloc, "plan", help::PLAN, help::AFTER_PLAN);
     let command = with_span(alloc, command)?;
     let command = with_jobs(alloc, command, help::DELAYS)?;
-    with_arguments(alloc, command, &[PLANNERS, ROOM, PLAN_LIMIT])
+    with_arguments(alloc, command, &[PLAN_LIMIT, PLANNERS, ROOM])
 }
 
 #[tactic(auto, unfolding(crate::specs::Command::upcoming))]
@@ -192,9 +192,9 @@ fn quiet_command<'a>(alloc: Global) -> Result<Command<'a>, AllocError>
         command,
         &[
             CommandOption::Number("least", "1800", help::LEAST),
+            CommandOption::Number("limit", "1000000", help::LIMIT),
             PLANNERS,
             ROOM,
-            CommandOption::Number("limit", "1000000", help::LIMIT),
         ],
     )
 }
@@ -321,9 +321,9 @@ fn with_span<'a>(alloc: Global, command: Command<'a>) -> Result<Command<'a>, All
         command,
         &[CommandOption::Moment("since", help::SINCE)],
     )?;
-    let upto = CommandOption::Moment("upto", help::UPTO).to_clap(alloc);
-    let upto = with_alias(upto, "until")?;
-    with_argument(command, upto)
+    let until = CommandOption::Moment("until", help::UNTIL).to_clap(alloc);
+    let until = with_alias(until, "upto")?;
+    with_argument(command, until)
 }
 
 // Adds the options and arguments that name the sources of jobs.

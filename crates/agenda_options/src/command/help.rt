@@ -10,14 +10,14 @@ describes the formats, the limits and every error.
 
 Examples:
   agenda next --cron @daily --after 2024-01-01T00:00:00Z
-  agenda plan --since 2024-01-01T00:00:00Z --upto 2024-01-02T00:00:00Z backup.timer
+  agenda plan --since 2024-01-01T00:00:00Z --until 2024-01-02T00:00:00Z backup.timer
   agenda upcoming --after 2024-01-01T00:00:00Z --crontab jobs backup.timer
-  agenda quiet --since 2024-01-01T00:00:00Z --upto 2024-01-02T00:00:00Z --crontab jobs
+  agenda quiet --since 2024-01-01T00:00:00Z --until 2024-01-02T00:00:00Z --crontab jobs
   agenda check --crontab jobs backup.timer
   agenda describe --cron '0 0 1,15 * 5'
   agenda machine check
-  agenda steps script
-  agenda explain OutOfRange";
+  agenda explain OutOfRange
+  agenda steps script";
 
 pub(super) const NEXT: &str = "Prints the next starts of one rule";
 
@@ -84,7 +84,7 @@ pub(super) const SINCE: &str = "\
 The start of the span, in UTC, such as
 2024-01-01T00:00:00Z; the years are 1970 to 2999";
 
-pub(super) const UPTO: &str = "\
+pub(super) const UNTIL: &str = "\
 The end of the span, written in the same way; a start
 at this time isn't included";
 
@@ -125,7 +125,7 @@ a start before --since is included if it may be delayed into the span. With --js
 is no header. agenda(1) describes the formats of the files.
 
 Example:
-  agenda plan --since 2024-01-01T00:00:00Z --upto 2024-01-02T00:00:00Z \\
+  agenda plan --since 2024-01-01T00:00:00Z --until 2024-01-02T00:00:00Z \\
     --crontab jobs --limit 100 backup.timer rotate.timer";
 
 pub(super) const UPCOMING: &str = "Prints when each job of crontabs and timers starts next";
@@ -153,11 +153,11 @@ from 1 to 4294967295";
 pub(super) const AFTER_QUIET: &str = "\
 Prints a line for each gap of the span in which nothing starts: its start, its end and its
 length in seconds, separated by tabs. A gap lasts from a job's start, or from --since, to
-the next job's start, or to --upto. With --delays, it begins at the latest time of all
+the next job's start, or to --until. With --delays, it begins at the latest time of all
 starts before it. agenda(1) describes the formats of the files.
 
 Example:
-  agenda quiet --since 2024-01-01T00:00:00Z --upto 2024-01-08T00:00:00Z \\
+  agenda quiet --since 2024-01-01T00:00:00Z --until 2024-01-08T00:00:00Z \\
     --least 3600 --crontab jobs backup.timer";
 
 pub(super) const DOWNTIME: &str = "Prints what a machine misses while it is down, and what then";
@@ -447,7 +447,7 @@ pub(super) const AFTER_EXPLAIN: &str = "\
 A code is the name that a line of an error or a warning ends with. Prints what the code
 means and what to do about it, for some codes with an example. Without a code, prints a
 line for each: the code and what it means in one sentence, separated by a tab. agenda(1)
-has the same texts.
+has the same sentences.
 
 Example:
   agenda explain OutOfRange";

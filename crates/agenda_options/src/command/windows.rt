@@ -78,7 +78,7 @@ pub(super) fn changes_command<'a>(alloc: Global) -> Result<Command<'a>, AllocErr
         ],
     )?;
     let command = with_sources(alloc, command)?;
-    with_arguments(alloc, command, &[PLANNERS, ROOM, PLAN_LIMIT])
+    with_arguments(alloc, command, &[PLAN_LIMIT, PLANNERS, ROOM])
 }
 
 /// Returns the command line of `agenda week`.
@@ -109,9 +109,9 @@ fn with_window<'a>(alloc: Global, command: Command<'a>) -> Result<Command<'a>, A
         alloc,
         command,
         &[
+            CommandOption::Number("limit", "1000000", help::LIMIT),
             PLANNERS,
             ROOM,
-            CommandOption::Number("limit", "1000000", help::LIMIT),
         ],
     )
 }

@@ -5,8 +5,8 @@ use Rattle.agenda_table.specs.Dates.{is_put_back_on}
 use Rattle.agenda_commands.specs.Table.{look_of, text_of_rows}
 use Rattle.agenda_commands.proofs.table.downtime_table.Goals as goal
 
-pub returns : goal.returns
-returns c =
+pub returns-clause-table : goal.returns-clause-table
+returns-clause-table c =
     let form = c.args.form.now in
     let dates : List ℕ = c.in_ok-dates.dates.items in
     let rows = c.in_ok-rows.ensures ∙ ap (missed_texts c.args.jobs.now) (c.deref.ensures.value ∙ c.in_ok-missed.ensures) in

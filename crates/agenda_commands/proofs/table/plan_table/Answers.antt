@@ -6,8 +6,8 @@ use Rattle.agenda_table.specs.Rows.{job_rows}
 use Rattle.agenda_commands.specs.Table.{look_of, text_of_rows}
 use Rattle.agenda_commands.proofs.table.plan_table.Goals as goal
 
-pub returns : goal.returns
-returns c =
+pub returns-clause-table : goal.returns-clause-table
+returns-clause-table c =
     let form = c.args.form.now in
     let agenda = c.args.agenda in
     let delays = c.args.delays in

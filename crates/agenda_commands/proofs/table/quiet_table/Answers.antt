@@ -6,8 +6,8 @@ use Rattle.agenda_table.specs.Rows.{gap_rows}
 use Rattle.agenda_commands.specs.Table.{look_of, text_of_rows}
 use Rattle.agenda_commands.proofs.table.quiet_table.Goals as goal
 
-pub returns : goal.returns
-returns c =
+pub returns-clause-table : goal.returns-clause-table
+returns-clause-table c =
     let form = c.args.form.now in
     let dates : List ℕ = c.in_ok-dates.dates.items in
     let gaps = c.in_ok-gaps.ensures in

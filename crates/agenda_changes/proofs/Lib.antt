@@ -1,0 +1,5 @@
+mod FirstLemmas
+mod CountLemmas
+mod KeyLemmas
+mod RowLemmas
+mod ShortLemmas

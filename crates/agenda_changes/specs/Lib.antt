@@ -1,0 +1,4 @@
+pub mod Rows
+pub mod Counts
+pub mod Last
+pub mod Laws
