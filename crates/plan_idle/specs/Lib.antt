@@ -1,0 +1,4 @@
+pub mod Run
+pub mod Outcomes
+pub mod Reason
+pub mod Answers

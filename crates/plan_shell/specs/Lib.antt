@@ -1,0 +1,5 @@
+pub mod Modes
+pub mod Pieces
+pub mod Commands
+pub mod Reading
+pub mod Tree
