@@ -80,9 +80,9 @@ _agenda() {
 
     local sources='--zone= --event-zones --crontab= --system-crontab= --cron-d= --spool= --help'
     local jobs="--keep-going --delays --json --local $sources"
-    local search='--since= --upto= --until= --planners= --room='
+    local search='--since= --until= --upto= --planners= --room='
     local span="$search --limit="
-    local sizes='--planners= --room= --limit='
+    local sizes='--limit= --planners= --room='
     local machine='--root= --all --zone= --utc --json --help'
     local form='--table --text'
     case $command:$cur in
@@ -90,7 +90,7 @@ _agenda() {
             mapfile -t COMPREPLY < <(compgen -W '--help --version' -- "$cur")
             ;;
         :*)
-            mapfile -t COMPREPLY < <(compgen -W 'next plan upcoming quiet downtime clear changes week check describe machine steps explain' -- "$cur")
+            mapfile -t COMPREPLY < <(compgen -W 'next plan upcoming quiet downtime clear changes week check describe machine explain steps' -- "$cur")
             ;;
         next:*)
             mapfile -t COMPREPLY < <(compgen -W '--after= --zone= --event-zones --count= --cron= --calendar= --json --local --help' -- "$cur")
@@ -152,7 +152,7 @@ _agenda() {
             [[ ${COMPREPLY-} == *= ]] && compopt -o nospace
             ;;
         machine\ changes:-*)
-            mapfile -t COMPREPLY < <(compgen -W "$sizes --except= --strict $machine" -- "$cur")
+            mapfile -t COMPREPLY < <(compgen -W "$sizes --except= --strict $form $machine" -- "$cur")
             [[ ${COMPREPLY-} == *= ]] && compopt -o nospace
             ;;
         machine\ week:*)

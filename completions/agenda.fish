@@ -57,8 +57,8 @@ complete -c agenda -n $rule -l calendar -x -d 'A calendar event' \
 
 set -l span '__fish_seen_subcommand_from plan quiet downtime clear week'
 complete -c agenda -n $span -l since -x -d 'The start of the span'
-complete -c agenda -n $span -l upto -x -d 'The end of the span, not included'
 complete -c agenda -n $span -l until -x -d 'The end of the span, not included'
+complete -c agenda -n $span -l upto -x -d 'The end of the span, not included'
 
 set -l searching '__fish_seen_subcommand_from plan quiet downtime clear changes week'
 complete -c agenda -n $searching -l planners -x -d 'How many threads search [2]' -a '1 2 3 4 5 6 7 8'
@@ -116,7 +116,7 @@ complete -c agenda -n '__fish_seen_subcommand_from machine; and not __fish_seen_
     -d 'Ignore the job with this name, as it is printed'
 complete -c agenda -n '__fish_seen_subcommand_from machine; and not __fish_seen_subcommand_from check sources next' -l strict \
     -d 'Let an error in a file stop the answer'
-set -l formed '__fish_seen_subcommand_from machine; and not __fish_seen_subcommand_from check sources clear changes week'
+set -l formed '__fish_seen_subcommand_from machine; and not __fish_seen_subcommand_from check sources clear week'
 complete -c agenda -n $formed -l table -d 'Print a table, also if this isn\'t a terminal'
 complete -c agenda -n $formed -l text -d 'Print text, also on a terminal'
 complete -c agenda -n '__fish_seen_subcommand_from clear; or begin; __fish_seen_subcommand_from machine; and __fish_seen_subcommand_from quiet; end' -l nominal \

@@ -716,10 +716,10 @@ check_as_plan <<ROWS
 --crontab more
 more.timer
 --system-crontab $top/examples/server-and-timers/etc-crontab $top/examples/server-and-timers/scrub.timer
---crontab $top/examples/window-user-crontab/crontab $top/examples/friday-the-13th/friday.timer
+--crontab $top/examples/described-server/jobs $top/examples/friday-the-13th/friday.timer
 --crontab $top/examples/faulty-line/crontab
 $top/examples/timer-with-resets/backup.timer $top/examples/all-timers-of-folder/timers/a-first.timer
-$top/examples/template-timer/backup@home.timer
+$top/examples/faults-in-editor/cert@.timer
 ROWS
 check_pairs_as_plan <<'ROWS'
 --crontab daily

@@ -242,7 +242,7 @@ Times are printed as they are given, as `plan` prints them. A time is written as
 In the order, as docs/FORMATS.md has it. Such as `x`, such as by hand, and as well.
 There is no file, and there are no jobs. Is there a wildcard?
 A note of `check`. A message of a planner may wait.
-Look for it there. Ask the machine. It starts behind-the-scenes, drop-in-joined and all-timers-of-folder.
+Look for it there. Ask the machine. It starts behind-the-scenes, twice-joined and all-timers-of-folder.
 The options `--room`, `--upto`, `the folder` and `--least`; a [link](folder/faults.md#moments) and https://example.org/folder.
 ROWS
 
@@ -387,4 +387,152 @@ documents_row "an exception that covers no word" documents_excepted README.md \
   "README.md:1: word 'folder': write 'directory', or add an exception" \
   "exceptions:1: exception that no word needs: remove it" <<'PAGE'
 This is a folder.
+PAGE
+
+# Runs the rule of sizes with the maxima of `documents_sizes`.
+documents_sized() {
+  printf '%s\n' "$documents_sizes" >sizes
+  report_sizes sizes
+}
+
+documents_sizes='# a page, and the most that it may have
+
+docs/SIZE.md 11 bytes
+docs/RULES.md 5 lines
+README.md 2 lines
+docs/NONE.md 10 bytes'
+documents_row "sizes" documents_sized docs/SIZE.md \
+  "docs/SIZE.md: 12 bytes: shorten it to 11" \
+  "README.md: 3 lines: shorten it to 2" \
+  "docs/NONE.md: there is no such page, correct sizes" <<'PAGE'
+# A page
+é
+PAGE
+
+documents_sizes='docs/SIZE.md 12 bytes'
+documents_row "a page of the most bytes" documents_sized docs/SIZE.md <<'PAGE'
+# A page
+é
+PAGE
+
+# Makes a crate of a law, a function with two clauses, and a definition, and runs the rule $1.
+documents_with_crate() {
+  mkdir -p crates/plan_a/{src,specs} crates/plan_a_b/src
+  printf '# the crates\nplan_a: jiff\nplan_a_b may_wait=1:\n' >crates.txt
+  cat >crates/plan_a/src/a.rt <<'CODE'
+/// Adds.
+impl A {
+    pub fn add(&self) -> u64
+        ensures sum { result ≡ sum_of self.now }
+        ensures few { result < 9 }
+    {
+        1
+
+        + 1
+    }
+}
+
+pub fn all_is_well<M>()
+    ensures { Well }
+{}
+CODE
+  printf 'pub fn other(a: u64) -> u64\n    ensures sum { IsTrue true }\n{\n    a\n}\n' >crates/plan_a_b/src/b.rt
+  printf 'use X.{no_definition}\n-- the sum : of all\nabbrev pub sum_of : A → ℕ\nsum_of a =\n    not_defined : a\n' >crates/plan_a/specs/A.antt
+  "$1"
+}
+
+documents_row "excerpts" "documents_with_crate report_excerpts" docs/EXCERPTS.md \
+  "docs/EXCERPTS.md:10: the lines that follow aren't in crates/plan_a/src/a.rt, copy them from it" \
+  "docs/EXCERPTS.md:14: the lines that follow aren't in crates/plan_a/src/a.rt, copy them from it" \
+  "docs/EXCERPTS.md:18: there is no crates/none/src/a.rt, correct the path" \
+  "docs/EXCERPTS.md:22: no code block follows: show the lines of crates/plan_a/specs/A.antt" <<'PAGE'
+This is `crates/plan_a/src/a.rt`:
+
+        {
+            1
+
+            + 1
+        }
+
+The definition is in
+`crates/plan_a/src/a.rt`:
+
+            1 + 1
+
+A part of a line is none: `crates/plan_a/src/a.rt`:
+
+    fn add(&self) -> u64
+
+`crates/none/src/a.rt`:
+
+    1
+
+`crates/plan_a/specs/A.antt`:
+
+No code. This is no excerpt of `crates/plan_a/src/a.rt`: it goes on.
+
+    1 + 1
+PAGE
+
+documents_row "names of promises" "documents_with_crate report_promises" docs/PROMISES.md <<'PAGE'
+Nothing is promised of plan_a_b.
+
+| function | clause | promise |
+|---|---|---|
+| plan_a `A::add` | `sum`, by `sum_of` | Adds `anything`. |
+| plan_a `add`; plan_a_b `other` | `few` and `sum` | Both. |
+| plan_a `all_is_well` | by `sum_of` | Law. |
+
+| command | order |
+|---|---|
+| `none` | `none` |
+PAGE
+
+documents_row "names that no crate has" "documents_with_crate report_promises" docs/PROMISES.md \
+  "docs/PROMISES.md: crate 'plan_a_b' is not named: say what it promises" \
+  "docs/PROMISES.md: law 'all_is_well' of plan_a is not named: say what it promises" \
+  "docs/PROMISES.md:3: function 'other': not in crates/plan_a/src, correct the name" \
+  "docs/PROMISES.md:4: clause 'no_definition': neither a clause of these functions nor a definition in specs/, correct the name" \
+  "docs/PROMISES.md:4: clause 'not_defined': neither a clause of these functions nor a definition in specs/, correct the name" \
+  "docs/PROMISES.md:5: no clause: name one, or a definition" \
+  "docs/PROMISES.md:6: function 'all_is_wel': not in crates/plan_b/src, correct the name" \
+  "docs/PROMISES.md:6: no crate 'plan_b': correct the name" \
+  "docs/PROMISES.md:7: no function: name one, after its crate" <<'PAGE'
+| function | clause | promise |
+|---|---|---|
+| plan_a `other`, `add` | `few` | Adds. |
+| plan_a `add` | `no_definition`, `not_defined` | Adds. |
+| plan_a `add` | few | Adds. |
+| plan_b `all_is_wel` | `sum_of` | Law. |
+| plan_a | `sum_of` | Adds. |
+PAGE
+
+# Runs the rule of figures with two figures of the tree.
+documents_figured() {
+  print_figures() {
+    print_figure "crates" 58
+    print_figure "lines of code" 1234567
+  }
+  report_figures
+}
+
+documents_row "figures" documents_figured docs/TESTING.md <<'PAGE'
+| figure | count |
+|---|---|
+| crates | 58 |
+| lines of code | 1,234,567 |
+
+| other figures | count |
+|---|---|
+| crates | 59 |
+PAGE
+
+documents_row "wrong figures" documents_figured docs/TESTING.md \
+  "docs/TESTING.md:3: '| lines of code | 1234567 |': write '| lines of code | 1,234,567 |'" \
+  "docs/TESTING.md:4: the tree has no figure '| lines of proof | 3 |': remove it" \
+  "docs/TESTING.md: add the figure '| crates | 58 |'" <<'PAGE'
+| figure | count |
+|---|---|
+| lines of code | 1234567 |
+| lines of proof | 3 |
 PAGE

@@ -1,21 +1,22 @@
 # shellcheck shell=bash disable=SC2154
-# Rows of bin/check-examples: what `agenda explain` prints. Each code has a paragraph in agenda(1), and the program prints the same words. A
-# code that is not in that page, or that the page has and the program doesn't, is a failure.
+# Rows of bin/check-examples: what `agenda explain` prints. agenda(1) has a sentence for each code, and the program begins its text with the
+# same words. A code that is not in that page, or that the page has and the program doesn't, is a failure.
 
 explain_folder="$work/explain"
 mkdir "$explain_folder"
 
-# What the manual page says: a code, a tab and its paragraph per line.
-awk -f "$top/rows/lib/codes-mdoc.awk" "$top/man/agenda.1" >"$explain_folder/page"
+# What the manual page says, in order of the codes: a code, a tab, its sentence, a tab, and `error` or `warning` per line.
+awk -f "$top/rows/lib/codes-mdoc.awk" "$top/man/agenda.1" | sort >"$explain_folder/page"
 
 # Explains the code $1, or prints all codes.
 explain_run() {
   run_in "$explain_folder" agenda explain "$@"
 }
 
-# Rows from standard input: codes. They are all codes of the manual page, in order.
+# Rows from standard input: codes. They are all codes of the manual page, whose two lists are in order.
 explain_all_codes() {
-  local code
+  awk -f "$top/rows/lib/codes-mdoc.awk" "$top/man/agenda.1" | sort -c -t "$tab" -k 3,3 -k 1,1 >"$work/told" 2>&1
+  count "the order of the codes of agenda(1)"
   cut -f 1 "$explain_folder/page" >"$work/out"
   cat >"$explain_folder/codes"
   status=0
@@ -28,23 +29,24 @@ explain_all_codes() {
   compare "the codes of agenda explain, sorted" "$explain_folder/sorted" /dev/null 0
 }
 
-# The list has the first sentence of each paragraph.
+# The list has the sentence of each code.
 explain_list() {
-  sed 's/\. .*/./' "$explain_folder/page" >"$explain_folder/list"
+  cut -f 1,2 "$explain_folder/page" >"$explain_folder/list"
   explain_run
   compare "the list of all codes" "$explain_folder/list" /dev/null 0
 }
 
-# Each code, as it is, in lower and in upper case: the words of the manual page in lines of at most 80 columns, and perhaps an example.
+# Each code, as it is, in lower and in upper case: the sentence of the manual page, perhaps with others after it, in lines of at most 80
+# columns, and perhaps an example.
 explain_each_code() {
-  local code text
-  while IFS=$tab read -r code text; do
+  local code text words
+  while IFS=$tab read -r code text _; do
     explain_run "$code"
     sed '/^$/,$d' "$work/out" >"$explain_folder/lines"
     {
       awk 'length > 80 { print "a line of " length " columns" }' "$work/out"
-      awk '{ for (i = 1; i <= NF; i++) print $i }' "$explain_folder/lines" >"$explain_folder/words"
-      printf '%s\n' "$text" | tr ' ' '\n' | diff -u --label "words of agenda(1)" --label "words of agenda explain" - "$explain_folder/words"
+      words=$(tr '\n' ' ' <"$explain_folder/lines")
+      [[ $words = "$text "* ]] || printf 'the sentence of agenda(1): %s\nthe text of agenda explain: %s\n' "$text" "$words"
       explain_is_wrapped "$explain_folder/lines"
       sed '1,/^$/d' "$work/out" | explain_is_example
       [ "$status" = 0 ] && [ ! -s "$work/err" ] || echo "status $status, or an error"
@@ -55,6 +57,19 @@ explain_each_code() {
       explain_run "$text"
       compare "explain $text" "$explain_folder/$code" /dev/null 0
     done
+  done <"$explain_folder/page"
+}
+
+# The kind of each code is that of the manual page: only warnings can be allowed.
+explain_kinds() {
+  local code text kind wanted
+  : >"$explain_folder/empty"
+  while IFS=$tab read -r code text kind; do
+    run_in "$explain_folder" agenda check --allow "$code" --crontab empty
+    wanted=0
+    [ "$kind" = warning ] || wanted=2
+    [ "$status" = "$wanted" ] || tell "$kind in agenda(1), but --allow ends with status $status: $text"
+    count "the kind of $code"
   done <"$explain_folder/page"
 }
 
@@ -232,6 +247,7 @@ ROWS
 
 explain_list
 explain_each_code
+explain_kinds
 
 # whole texts: without an example, with one, with lines that have a backslash, and with examples of several lines
 explain_texts <<'ROWS'

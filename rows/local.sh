@@ -232,10 +232,10 @@ END
 run_in "$local_folder" agenda plan --since 2024-01-01T00:00:00Z --until 2024
 is_refused "an --until that is rejected" "upto: BadForm" 1
 local_usage <<'END'
-plan --since 2024-01-01T00:00:00Z --upto 2024-01-02T00:00:00Z --until 2024-01-02T00:00:00Z => error: the argument '--upto <T>' cannot be used multiple times
-quiet --since 2024-01-01T00:00:00Z --until=2024-01-02T00:00:00Z --upto=2024-01-02T00:00:00Z => error: the argument '--upto <T>' cannot be used multiple times
-plan --since 2024-01-01T00:00:00Z --until 2024-01-02T00:00:00Z --until 2024-01-02T00:00:00Z => error: the argument '--upto <T>' cannot be used multiple times
-plan --since 2024-01-01T00:00:00Z --until => error: a value is required for '--upto <T>' but none was supplied
+plan --since 2024-01-01T00:00:00Z --upto 2024-01-02T00:00:00Z --until 2024-01-02T00:00:00Z => error: the argument '--until <T>' cannot be used multiple times
+quiet --since 2024-01-01T00:00:00Z --until=2024-01-02T00:00:00Z --upto=2024-01-02T00:00:00Z => error: the argument '--until <T>' cannot be used multiple times
+plan --since 2024-01-01T00:00:00Z --until 2024-01-02T00:00:00Z --until 2024-01-02T00:00:00Z => error: the argument '--until <T>' cannot be used multiple times
+plan --since 2024-01-01T00:00:00Z --until => error: a value is required for '--until <T>' but none was supplied
 next --after 2024-01-01T00:00:00Z --cron @daily --until 2024-01-02T00:00:00Z => error: unexpected argument '--until' found
 upcoming --after 2024-01-01T00:00:00Z --until 2024-01-02T00:00:00Z => error: unexpected argument '--until' found
 next --local --local --after 2024-01-01T00:00:00Z --cron @daily => error: the argument '--local' cannot be used multiple times

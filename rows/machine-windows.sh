@@ -213,6 +213,31 @@ S/u=0\x203\x20*\x20*\x20*\x20a\n|changes before --json|{"change":"-","start":"20
 etc/crontab=0\x203\x20*\x20*\x20*\x20root\x20a\n S/u=0\x202\x20*\x20*\x20*\x20a\n|changes before --json --utc|{"change":"+","start":"2024-01-01T03:00:00Z","job":"system:1","run":"root a"}|||1
 ROWS
 
+# The table has a row for each text that runs and has a difference, in the order of first changes, with all its starts before and now.
+program_make 'S/u=0\x203\x20*\x20*\x20*\x20a\n0\x20*/6\x20*\x20*\x20*\x20b\n S/v=15\x203\x20*\x20*\x20*\x20a\n'
+windows_is 'changes|--table|before' 1 <<'TABLE'
+RUNS  BEFORE  NOW  FIRST CHANGE
+b     0       4    Mon 2024-01-01 00:00:00
+a     1       2    Mon 2024-01-01 02:00:00
+1 start fewer, 6 more, from Mon 2024-01-01 00:00:00 to Tue 2024-01-02 00:00:00, UTC
+TABLE
+windows_is 'changes|--table|--except|u:2|--except|v:1|before' 1 <<'TABLE'
+RUNS  BEFORE  NOW  FIRST CHANGE
+a     1       1    Mon 2024-01-01 02:00:00
+1 start fewer, 1 more, from Mon 2024-01-01 00:00:00 to Tue 2024-01-02 00:00:00, UTC
+TABLE
+program_make 'S/u=0\x202\x20*\x20*\x20*\x20a\n'
+windows_is 'changes|--table|before' <<'TABLE'
+RUNS  BEFORE  NOW  FIRST CHANGE
+0 starts fewer, 0 more, from Mon 2024-01-01 00:00:00 to Tue 2024-01-02 00:00:00, UTC
+TABLE
+program_make 'etc/localtime=CET S/u=30\x202\x20*\x20*\x20*\x20a\n'
+windows_is 'changes|night|--table' 1 <<'TABLE'
+RUNS  BEFORE  NOW  FIRST CHANGE
+a     2       1    Sun 2024-10-27 02:30:00+01:00
+1 start fewer, 0 more, from Sun 2024-10-27 02:00:00+02:00 to Sun 2024-10-27 03:00:00+01:00, local
+TABLE
+
 # What is skipped is reported, and its status is 1, also if nothing changed. The jobs of a crontab that cron ignores are gone. With --strict an
 # error stops the answer.
 windows_answers <<'ROWS'
@@ -346,13 +371,15 @@ done
 
 for windows_to in '>&-' '>/dev/full'; do
   [[ $windows_to != *full ]] || [ -c /dev/full ] || continue
-  run_in "$machine_folder" bash -c "exec agenda machine changes before --root root $windows_to"
-  program_compare "changes $windows_to" /dev/null "$work/err.wanted" 3
+  for windows_words in --text --table; do
+    run_in "$machine_folder" bash -c "exec agenda machine changes before $windows_words --root root $windows_to"
+    program_compare "changes $windows_words $windows_to" /dev/null "$work/err.wanted" 3
+  done
 done
 
 # ---- a terminal
 
-# There downtime prints its table, whose lines but the last are cut. A picture and the lines of clear and changes are as in a pipe.
+# There downtime and changes print their tables, whose lines but the last are cut. A picture and the line of clear are as in a pipe.
 windows_on_terminal() {
   program_make 'S/u=30\x20*\x20*\x20*\x20*\x20aaaaaaaaaaaaaaaaaaaaaaaaaaaaaa\n'
   windows_terminal 'downtime|--since|2024-01-01|--until|2024-01-02' <<'TABLE'
@@ -370,7 +397,12 @@ TABLE
 2024-01-01T00:30:00Z${tab}u:1${tab}aaaaaaaaaaaaaaaaaaaaaaaaaaaaaa
 TABLE
   windows_terminal 'clear|--since|2024-01-01T00:30:01Z|--until|2024-01-01T01:30:00Z' </dev/null
-  windows_terminal 'changes|hour' 1 <<TABLE
+  windows_terminal 'changes|hour' 1 <<'TABLE'
+RUNS                            BEFORE …
+aaaaaaaaaaaaaaaaaaaaaaaaaaaaaa  0      …
+0 starts fewer, 1 more, from Mon 2024-01-01 00:00:00 to Mon 2024-01-01 01:00:00, UTC
+TABLE
+  windows_terminal 'changes|--text|hour' 1 <<TABLE
 +${tab}2024-01-01T00:30:00+00:00${tab}u:1${tab}aaaaaaaaaaaaaaaaaaaaaaaaaaaaaa
 TABLE
   picture_of '24 starts from 2024-01-01T00:00:00Z to 2024-01-02T00:00:00Z, UTC' <<'DAYS'

@@ -273,6 +273,8 @@ Options:
                       may be given more than once
       --strict        Let an error in a file stop the answer, instead of
                       skipping what is invalid
+      --table         Print a table, also if standard output isn't a terminal
+      --text          Print text, also on a terminal
       --json          Print each line as a JSON object; agenda(1)
                       describes the keys
       --limit <N>     The maximum number of starts, from 1 to 1000000;
@@ -574,8 +576,6 @@ changes => error: the following required arguments were not provided:
 changes|before|--since=x => error: unexpected argument '--since' found
 changes|before|--until=x => error: unexpected argument '--until' found
 changes|before|--delays => error: unexpected argument '--delays' found
-changes|before|--table => error: unexpected argument '--table' found
-changes|before|--text => error: unexpected argument '--text' found
 changes|before|--local => error: unexpected argument '--local' found
 changes|before|--keep-going => error: unexpected argument '--keep-going' found
 changes|before|--event-zones => error: unexpected argument '--event-zones' found

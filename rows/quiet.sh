@@ -252,6 +252,6 @@ quiet_as_plan <<ROWS
 1999-12-31T12:00:00Z|2000-03-01T12:00:00Z|1 3600 86400 604800|noon.timer two.timer
 2088-01-01T00:00:00Z|2408-01-01T00:00:00Z|1 86400 126144000 126230400 126230401 252374400|--crontab leap
 2024-06-28T22:00:00Z|2024-07-10T00:00:00Z|60 480 600 1320 3600|--system-crontab $top/examples/server-and-timers/etc-crontab $top/examples/server-and-timers/scrub.timer
-2024-05-14T23:30:00Z|2024-05-20T00:00:00Z|1 300 600 1200|--crontab $top/examples/window-user-crontab/crontab
+2024-05-14T23:30:00Z|2024-05-20T00:00:00Z|1 300 600 1200|--crontab $top/examples/described-server/jobs
 2024-01-01T00:00:00Z|2026-01-01T00:00:00Z|1 86400 2592000 7776000|$top/examples/friday-the-13th/friday.timer $top/examples/last-days-of-months/month-end.timer
 ROWS

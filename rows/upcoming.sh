@@ -191,7 +191,7 @@ upcoming_as_plan <<ROWS
 2024-01-01T00:00:00Z|2024-03-01T00:00:00Z|cron:4 cron:7|--crontab rules.mixed two.timer reset.timer
 2023-12-31T23:59:59Z|2024-01-09T00:00:00Z|cron:1 cron:3 mixed:2 other:1 never.timer|--crontab mixed --cron-d cron.d/mixed --spool spool/other never.timer two.timer d.timer
 2024-06-28T22:00:00Z|2024-10-01T00:00:00Z||--system-crontab $top/examples/server-and-timers/etc-crontab $top/examples/server-and-timers/scrub.timer $top/examples/server-and-timers/trim-disks.timer
-2024-05-14T23:30:00Z|2024-10-01T00:00:00Z|cron:10|--crontab $top/examples/window-user-crontab/crontab $top/examples/friday-the-13th/friday.timer
+2024-05-14T23:30:00Z|2024-10-01T00:00:00Z|cron:7|--crontab $top/examples/described-server/jobs $top/examples/friday-the-13th/friday.timer
 ROWS
 upcoming_as_next cron <<'ROWS'
 30 4 1,15 * 5

@@ -46,8 +46,8 @@ Commands:
   check     Prints errors and likely mistakes in crontabs and timers
   describe  Says in words when a rule or each job starts
   machine   Answers questions about a machine's crontabs and timers
-  steps     Runs a script of steps on a mailbox, for testing
   explain   Explains a code, such as OutOfRange, and what to do about it
+  steps     Runs a script of steps on a mailbox, for testing
 
 Options:
   -h, --help     Print help
@@ -60,14 +60,14 @@ describes the formats, the limits and every error.
 
 Examples:
   agenda next --cron @daily --after 2024-01-01T00:00:00Z
-  agenda plan --since 2024-01-01T00:00:00Z --upto 2024-01-02T00:00:00Z backup.timer
+  agenda plan --since 2024-01-01T00:00:00Z --until 2024-01-02T00:00:00Z backup.timer
   agenda upcoming --after 2024-01-01T00:00:00Z --crontab jobs backup.timer
-  agenda quiet --since 2024-01-01T00:00:00Z --upto 2024-01-02T00:00:00Z --crontab jobs
+  agenda quiet --since 2024-01-01T00:00:00Z --until 2024-01-02T00:00:00Z --crontab jobs
   agenda check --crontab jobs backup.timer
   agenda describe --cron '0 0 1,15 * 5'
   agenda machine check
-  agenda steps script
   agenda explain OutOfRange
+  agenda steps script
 END
 }
 
@@ -108,7 +108,7 @@ words_make_help_of_plan() {
   cat >"$work/words/plan.text" <<'END'
 Prints every start of crontabs and timers in a span of time
 
-Usage: agenda plan [OPTIONS] --since <T> --upto <T> [TIMER]...
+Usage: agenda plan [OPTIONS] --since <T> --until <T> [TIMER]...
 
 Arguments:
   [TIMER]...  A systemd timer file, such as backup.timer
@@ -116,8 +116,8 @@ Arguments:
 Options:
       --since <T>           The start of the span, in UTC, such as
                             2024-01-01T00:00:00Z; the years are 1970 to 2999
-      --upto <T>            The end of the span, written in the same way; a start
-                            at this time isn't included [alias: --until]
+      --until <T>           The end of the span, written in the same way; a start
+                            at this time isn't included [alias: --upto]
       --zone <ZONE>         The time zone of the rules, such as Europe/Berlin,
                             or the path of a TZif file; UTC if it isn't given
       --event-zones         Read events that end with a time zone, such as
@@ -153,7 +153,7 @@ a start before --since is included if it may be delayed into the span. With --js
 is no header. agenda(1) describes the formats of the files.
 
 Example:
-  agenda plan --since 2024-01-01T00:00:00Z --upto 2024-01-02T00:00:00Z \
+  agenda plan --since 2024-01-01T00:00:00Z --until 2024-01-02T00:00:00Z \
     --crontab jobs --limit 100 backup.timer rotate.timer
 END
 }
@@ -205,7 +205,7 @@ words_make_help_of_quiet() {
   cat >"$work/words/quiet.text" <<'END'
 Prints the gaps in which no job of crontabs and timers starts
 
-Usage: agenda quiet [OPTIONS] --since <T> --upto <T> [TIMER]...
+Usage: agenda quiet [OPTIONS] --since <T> --until <T> [TIMER]...
 
 Arguments:
   [TIMER]...  A systemd timer file, such as backup.timer
@@ -213,8 +213,8 @@ Arguments:
 Options:
       --since <T>           The start of the span, in UTC, such as
                             2024-01-01T00:00:00Z; the years are 1970 to 2999
-      --upto <T>            The end of the span, written in the same way; a start
-                            at this time isn't included [alias: --until]
+      --until <T>           The end of the span, written in the same way; a start
+                            at this time isn't included [alias: --upto]
       --zone <ZONE>         The time zone of the rules, such as Europe/Berlin,
                             or the path of a TZif file; UTC if it isn't given
       --event-zones         Read events that end with a time zone, such as
@@ -246,11 +246,11 @@ Tuning (the output stays the same):
 
 Prints a line for each gap of the span in which nothing starts: its start, its end and its
 length in seconds, separated by tabs. A gap lasts from a job's start, or from --since, to
-the next job's start, or to --upto. With --delays, it begins at the latest time of all
+the next job's start, or to --until. With --delays, it begins at the latest time of all
 starts before it. agenda(1) describes the formats of the files.
 
 Example:
-  agenda quiet --since 2024-01-01T00:00:00Z --upto 2024-01-08T00:00:00Z \
+  agenda quiet --since 2024-01-01T00:00:00Z --until 2024-01-08T00:00:00Z \
     --least 3600 --crontab jobs backup.timer
 END
 }
@@ -259,7 +259,7 @@ words_make_help_of_downtime() {
   cat >"$work/words/downtime.text" <<'END'
 Prints what a machine misses while it is down, and what then
 
-Usage: agenda downtime [OPTIONS] --since <T> --upto <T> [TIMER]...
+Usage: agenda downtime [OPTIONS] --since <T> --until <T> [TIMER]...
 
 Arguments:
   [TIMER]...  A systemd timer file, such as backup.timer
@@ -267,8 +267,8 @@ Arguments:
 Options:
       --since <T>           The start of the span, in UTC, such as
                             2024-01-01T00:00:00Z; the years are 1970 to 2999
-      --upto <T>            The end of the span, written in the same way; a start
-                            at this time isn't included [alias: --until]
+      --until <T>           The end of the span, written in the same way; a start
+                            at this time isn't included [alias: --upto]
       --zone <ZONE>         The time zone of the rules, such as Europe/Berlin,
                             or the path of a TZif file; UTC if it isn't given
       --event-zones         Read events that end with a time zone, such as
@@ -308,7 +308,7 @@ words_make_help_of_clear() {
   cat >"$work/words/clear.text" <<'END'
 Succeeds if no job of crontabs and timers starts in a span
 
-Usage: agenda clear [OPTIONS] --since <T> --upto <T> [TIMER]...
+Usage: agenda clear [OPTIONS] --since <T> --until <T> [TIMER]...
 
 Arguments:
   [TIMER]...  A systemd timer file, such as backup.timer
@@ -316,8 +316,8 @@ Arguments:
 Options:
       --since <T>           The start of the span, in UTC, such as
                             2024-01-01T00:00:00Z; the years are 1970 to 2999
-      --upto <T>            The end of the span, written in the same way; a start
-                            at this time isn't included [alias: --until]
+      --until <T>           The end of the span, written in the same way; a start
+                            at this time isn't included [alias: --upto]
       --zone <ZONE>         The time zone of the rules, such as Europe/Berlin,
                             or the path of a TZif file; UTC if it isn't given
       --event-zones         Read events that end with a time zone, such as
@@ -401,7 +401,7 @@ words_make_help_of_week() {
   cat >"$work/words/week.text" <<'END'
 Shows how many jobs start in each hour of a span
 
-Usage: agenda week [OPTIONS] --since <T> --upto <T> [TIMER]...
+Usage: agenda week [OPTIONS] --since <T> --until <T> [TIMER]...
 
 Arguments:
   [TIMER]...  A systemd timer file, such as backup.timer
@@ -409,8 +409,8 @@ Arguments:
 Options:
       --since <T>           The start of the span, in UTC, such as
                             2024-01-01T00:00:00Z; the years are 1970 to 2999
-      --upto <T>            The end of the span, written in the same way; a start
-                            at this time isn't included [alias: --until]
+      --until <T>           The end of the span, written in the same way; a start
+                            at this time isn't included [alias: --upto]
       --zone <ZONE>         The time zone of the rules, such as Europe/Berlin,
                             or the path of a TZif file; UTC if it isn't given
       --event-zones         Read events that end with a time zone, such as
@@ -599,7 +599,7 @@ Options:
 A code is the name that a line of an error or a warning ends with. Prints what the code
 means and what to do about it, for some codes with an example. Without a code, prints a
 line for each: the code and what it means in one sentence, separated by a tab. agenda(1)
-has the same texts.
+has the same sentences.
 
 Example:
   agenda explain OutOfRange
@@ -677,7 +677,7 @@ words_tell_usage() {
 words_tell_usage_of_agenda() {
   words_tell_usage '' <<'END'
 error: 'agenda' requires a subcommand but one was not provided
-  [subcommands: next, plan, upcoming, quiet, downtime, clear, changes, week, check, describe, machine, steps, explain]
+  [subcommands: next, plan, upcoming, quiet, downtime, clear, changes, week, check, describe, machine, explain, steps]
 
 Usage: agenda <COMMAND>
 
@@ -731,7 +731,7 @@ END
 error: the following required arguments were not provided:
   --since <T>
 
-Usage: agenda clear --since <T> --upto <T> <TIMER>...
+Usage: agenda clear --since <T> --until <T> <TIMER>...
 
 For more information, try '--help'.
 END
@@ -808,14 +808,14 @@ words_begin_usage_of_plan() {
   local span="--since|2024-01-01T00:00:00Z|--upto|2024-01-02T00:00:00Z"
   local missing="error: the following required arguments were not provided:"
   words_begin_usage <<END
-plan => $missing\n  --since <T>\n  --upto <T>
-plan|--since|x => $missing\n  --upto <T>
-plan|--since|2024-01-01T00:00:00Z|a.timer => $missing\n  --upto <T>
+plan => $missing\n  --since <T>\n  --until <T>
+plan|--since|x => $missing\n  --until <T>
+plan|--since|2024-01-01T00:00:00Z|a.timer => $missing\n  --until <T>
 plan|--upto|2024-01-02T00:00:00Z => $missing\n  --since <T>
 plan|--until|2024-01-02T00:00:00Z => $missing\n  --since <T>
-plan|--since=x|--until => error: a value is required for '--upto <T>' but none was supplied
-plan|$span|--until=x => error: the argument '--upto <T>' cannot be used multiple times
-plan|--since=x|--until=y|--until=z => error: the argument '--upto <T>' cannot be used multiple times
+plan|--since=x|--until => error: a value is required for '--until <T>' but none was supplied
+plan|$span|--until=x => error: the argument '--until <T>' cannot be used multiple times
+plan|--since=x|--until=y|--until=z => error: the argument '--until <T>' cannot be used multiple times
 plan|$span|--planners=x => error: invalid value 'x' for '--planners <N>': invalid digit found in string
 plan|$span|--planners= => error: invalid value '' for '--planners <N>': cannot parse integer from empty string
 plan|$span|--planners|-1 => error: unexpected argument '-1' found
@@ -860,8 +860,8 @@ upcoming|$after|--limit=1 => error: unexpected argument '--limit' found
 upcoming|$after|--cron=@daily => error: unexpected argument '--cron' found
 upcoming|$after|--calendar=daily => error: unexpected argument '--calendar' found
 upcoming|$after|--version => error: unexpected argument '--version' found
-quiet => $missing\n  --since <T>\n  --upto <T>
-quiet|--since|x|--least=1|a.timer => $missing\n  --upto <T>
+quiet => $missing\n  --since <T>\n  --until <T>
+quiet|--since|x|--least=1|a.timer => $missing\n  --until <T>
 quiet|--upto|2024-01-02T00:00:00Z => $missing\n  --since <T>
 quiet|$span|--least=x => error: invalid value 'x' for '--least <N>': invalid digit found in string
 quiet|$span|--least= => error: invalid value '' for '--least <N>': cannot parse integer from empty string
@@ -874,7 +874,7 @@ quiet|$span|--planners=x => error: invalid value 'x' for '--planners <N>': inval
 quiet|$span|--room=-1 => error: invalid value '-1' for '--room <N>': -1 is not in 0..=4294967295
 quiet|$span|--limit=4294967296 => error: invalid value '4294967296' for '--limit <N>': 4294967296 is not in 0..=4294967295
 quiet|$span|--since=x => error: the argument '--since <T>' cannot be used multiple times
-quiet|$span|--until=x => error: the argument '--upto <T>' cannot be used multiple times
+quiet|$span|--until=x => error: the argument '--until <T>' cannot be used multiple times
 quiet|$span|--delays|--delays => error: the argument '--delays' cannot be used multiple times
 quiet|$span|--json|--json => error: the argument '--json' cannot be used multiple times
 quiet|$span|--local=yes => error: unexpected value 'yes' for '--local' found; no more were expected
@@ -892,14 +892,14 @@ words_begin_usage_of_windows() {
   local missing="error: the following required arguments were not provided:"
   for command in downtime clear week; do
     words_begin_usage <<END
-$command => $missing\n  --since <T>\n  --upto <T>
-$command|--since|x|a.timer => $missing\n  --upto <T>
+$command => $missing\n  --since <T>\n  --until <T>
+$command|--since|x|a.timer => $missing\n  --until <T>
 $command|--upto|2024-01-02T00:00:00Z => $missing\n  --since <T>
 $command|--until|2024-01-02T00:00:00Z => $missing\n  --since <T>
-$command|--since=x|--until => error: a value is required for '--upto <T>' but none was supplied
+$command|--since=x|--until => error: a value is required for '--until <T>' but none was supplied
 $command|$span|--since=x => error: the argument '--since <T>' cannot be used multiple times
-$command|$span|--upto=x => error: the argument '--upto <T>' cannot be used multiple times
-$command|$span|--until=x => error: the argument '--upto <T>' cannot be used multiple times
+$command|$span|--upto=x => error: the argument '--until <T>' cannot be used multiple times
+$command|$span|--until=x => error: the argument '--until <T>' cannot be used multiple times
 $command|$span|--after=x => error: unexpected argument '--after' found
 $command|$span|--count=1 => error: unexpected argument '--count' found
 $command|$span|--least=1 => error: unexpected argument '--least' found

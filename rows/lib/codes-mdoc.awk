@@ -1,5 +1,5 @@
-# Prints what the section Codes of a manual page says about each code: the code, a tab, and its paragraph in one line, without macros. Text
-# that .Ql marks gets single quotes.
+# Prints what the sections "Codes of errors" and "Codes of warnings" of a manual page say about each code: the code, a tab, its sentence in
+# one line, without macros, a tab, and `error` or `warning`. Text that .Ql marks gets single quotes.
 
 # Puts the words of a macro line into `words`: one between quotes may have spaces. Returns how many there are.
 function split_words(line, words,   count) {
@@ -21,20 +21,20 @@ function text_of(words, count,   i, last, text, after) {
   return (words[1] == "Ql" ? "'" text "'" : text) after
 }
 
-# Prints the paragraph so far.
+# Prints the sentence so far.
 function put() {
-  if (code != "") print code "\t" paragraph
-  code = paragraph = ""
+  if (code != "") print code "\t" sentence "\t" kind
+  code = sentence = ""
 }
 
-/^\.Ss Codes/ { inside = 1; next }
-!inside { next }
+/^\.Ss Codes of (errors|warnings)$/ { kind = /errors/ ? "error" : "warning"; next }
+kind == "" { next }
 /^\.(It|El|Ss|Sh)/ { put() }
-/^\.(El|Ss|Sh)/ { inside = 0; next }
+/^\.(El|Ss|Sh)/ { kind = ""; next }
 /^\.It / { code = $2; next }
 code != "" {
   text = /^\./ ? text_of(words, split_words(substr($0, 2), words)) : $0
   gsub(/\\&/, "", text)
   gsub(/\\e/, "\\", text)
-  paragraph = paragraph (paragraph == "" ? "" : " ") text
+  sentence = sentence (sentence == "" ? "" : " ") text
 }
