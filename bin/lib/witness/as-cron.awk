@@ -1,5 +1,5 @@
 # as_read(text) returns what Debian's cron makes of a rule that agenda rejects, as a rule that agenda accepts. No rule is known
-# that agenda accepts and cron rejects. Each change is recorded by its name in docs/DIFFERENCES.md, with the codes of
+# that agenda accepts and cron rejects. Each change is recorded by its name in docs/TESTING.md, with the codes of
 # agenda's errors for it.
 
 function value(word, at) {

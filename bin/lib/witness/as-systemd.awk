@@ -1,5 +1,5 @@
 # as_read(text) returns systemd's meaning of an event that agenda rejects, in a form that agenda accepts. Each change is
-# recorded by its name in docs/DIFFERENCES.md, with the codes of agenda's errors for it.
+# recorded by its name in docs/TESTING.md, with the codes of agenda's errors for it.
 #
 # A step without an end gets its last value as the end. That changes only that systemd skips no start, and `closed` says that
 # it was done.
