@@ -1,5 +1,5 @@
 -- How cron reads and changes the command of a job (load_entry and child_process of cron 3.0pl1; crontab(5)).
-use Rattle.std.specs.Prelude.{ℕ, ◌-◌, ◌%◌, Bool, true, false, ◌&&◌, ◌==◌, if◌then◌else◌, nat_lt, List, length, take, drop}
+use Rattle.std.specs.Prelude.{ℕ, ◌-◌, ◌%◌, Bool, true, false, ◌&&◌, ◌||◌, ◌==◌, if◌then◌else◌, nat_lt, List, [], ◌∷◌, length, take, drop}
 use Rattle.std.specs.List.{list_any, range_with_len, slice_index, suffix_len}
 use Rattle.std.specs.Str.{byte}
 use Rattle.plan_rules.specs.declared.crontabs.Kind.{Kind}
@@ -52,3 +52,23 @@ is_second_backslash command i = is_backslash (slice_index command (i - 1)) && is
 -- a command has two backslashes in a row, of which cron removes one (child_process of cron 3.0pl1)
 abbrev pub has_two_backslashes : (command : List ℕ) → Bool
 has_two_backslashes command = list_any (is_second_backslash command) (range_with_len 1 (length command - 1))
+
+-- ---- what the shell gets
+
+-- a byte before which cron removes a backslash (child_process of cron 3.0pl1)
+abbrev pub is_escapable : ℕ → Bool
+is_escapable b = (b == byte "%") || is_backslash b
+
+-- what the shell gets of the rest of a command, after a backslash or not: what comes before the first `%` that no backslash
+-- takes, where `\%` and `\\` are `%` and `\` (child_process of cron 3.0pl1; crontab(5))
+abbrev pub given_from : (escaped : Bool) → (command : List ℕ) → List ℕ
+given_from true [] = byte "\\" ∷ []
+given_from true (b ∷ more) =
+    if is_escapable b then b ∷ given_from false more else byte "\\" ∷ b ∷ given_from false more
+given_from false [] = []
+given_from false (b ∷ more) =
+    if b == byte "%" then [] else (if is_backslash b then given_from true more else b ∷ given_from false more)
+
+-- what the shell gets of a command
+abbrev pub shell_command : (command : List ℕ) → List ℕ
+shell_command command = given_from false command

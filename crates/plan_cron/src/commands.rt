@@ -1,14 +1,15 @@
 //! How cron reads and changes the command of a job (cron 3.0pl1, crontab(5)).
 
-ghost use Rattle.std.specs.Prelude.{◌≡◌, ◌<◌, ◌≤◌, drop, length};
+ghost use Rattle.std.specs.Prelude.{◌≡◌, ◌<◌, ◌≤◌, ◌++◌, IfOk, drop, length};
 ghost use Rattle.std.specs.List.{suffix_len};
-ghost use Rattle.plan_cron.specs.Commands.{after_rule, begins_with_star, cut_command, has_bare_percent, has_two_backslashes, is_backslash, is_bare_percent, is_second_backslash, is_too_long};
+ghost use Rattle.plan_cron.specs.Commands.{after_rule, begins_with_star, cut_command, has_bare_percent, has_two_backslashes, is_backslash, is_bare_percent, is_escapable, is_second_backslash, is_too_long, shell_command};
 
 use crate::lines::{MOST_KEPT, before_nul};
 use crate::words::{after_word, after_words};
 use plan_rules::Kind;
 use plan_texts::begins_with;
 use plan_texts::lines::after_blanks;
+use std::alloc::{AllocError, Global};
 
 /// Returns whether the command of a job's line has more bytes than cron keeps, so that cron ignores the crontab.
 #[tactic(auto, using(crate::proofs::CommandLemmas::never_too_long), unfolding(crate::specs::Commands::is_too_long))]
@@ -40,6 +41,45 @@ pub fn has_two_backslashes(command: &[u8]) -> bool
     ensures { result ≡ has_two_backslashes command.now }
 {
     (1..command.len()).any(|i| is_second_backslash(command, i))
+}
+
+/// Returns what the shell gets of a command: what comes before the first `%` that no backslash takes, where `\%` and `\\` are
+/// `%` and `\` (child_process of cron 3.0pl1; crontab(5)).
+///
+/// # Errors
+///
+/// `AllocError` if an allocation fails.
+pub fn shell_command(alloc: Global, command: &[u8]) -> Result<Vec<u8>, AllocError>
+    ensures { IfOk result (λ given. given.items ≡ shell_command command.now) }
+{
+    let mut given = Vec::new(alloc);
+    let mut escaped = false;
+    for byte in command {
+        if escaped {
+            if !is_escapable(*byte) {
+                given.push(b'\\')?;
+            }
+            given.push(*byte)?;
+            escaped = false;
+        } else if *byte == b'%' {
+            return Ok(given);
+        } else if *byte == b'\\' {
+            escaped = true;
+        } else {
+            given.push(*byte)?;
+        }
+    }
+    if escaped {
+        given.push(b'\\')?;
+    }
+    Ok(given)
+}
+
+// Returns whether cron removes a backslash before a byte.
+fn is_escapable(byte: u8) -> bool
+    ensures { result ≡ is_escapable byte }
+{
+    byte == b'%' || byte == b'\\'
 }
 
 // Returns the command as cron cuts it from a line.

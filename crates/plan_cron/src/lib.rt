@@ -13,7 +13,9 @@ mod settings;
 mod users;
 mod words;
 
-pub use commands::{begins_with_star, has_bare_percent, has_two_backslashes, is_too_long};
+pub use commands::{
+    begins_with_star, has_bare_percent, has_two_backslashes, is_too_long, shell_command,
+};
 pub use hints::hint;
 pub use lines::{ends_at_nul, first_beyond, is_unended};
 pub use settings::{is_setting_of_word, setting_fault};
