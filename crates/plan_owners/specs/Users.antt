@@ -18,12 +18,20 @@ use Rattle.plan_tree.specs.Tree.{Held}
 abbrev pub is_number : List ℕ → Bool
 is_number text = not (length text == 0) && list_all is_ascii_digit text
 
--- the first field of a line is the name of a user, and the third one the number (passwd(5))
+-- the home directory among the fields after the number; a line without one has an empty one (passwd(5))
+abbrev pub home_in : List (List ℕ) → List ℕ
+home_in [] = []
+home_in (group ∷ []) = []
+home_in (group ∷ comment ∷ []) = []
+home_in (group ∷ comment ∷ home ∷ more) = home
+
+-- the first field of a line is the name of a user, the third one the number, and the sixth one the home directory (passwd(5))
 abbrev pub user_by : List (List ℕ) → Option User
 user_by [] = None
 user_by (name ∷ []) = None
 user_by (name ∷ password ∷ []) = None
-user_by (name ∷ password ∷ number ∷ more) = if is_number number then Some (record { name = name; number = number }) else None
+user_by (name ∷ password ∷ number ∷ more) =
+    if is_number number then Some (record { name = name; number = number; home = home_in more }) else None
 
 -- the fields of a line, which are between colons (passwd(5))
 abbrev pub fields_of : List ℕ → List (List ℕ)

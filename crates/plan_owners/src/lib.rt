@@ -13,3 +13,4 @@ mod users;
 
 pub use crontabs::{Ignored, file_why};
 pub use daemon::{CronDaemon, Daemon};
+pub use users::{User, users_of};

@@ -4,7 +4,7 @@ ghost use Rattle.std.specs.Prelude.{◌≡◌, true, IfOk, map};
 ghost use Rattle.std.specs.Char.{is_ascii_digit};
 ghost use Rattle.std.specs.List.{list_all};
 ghost use Rattle.std.specs.Option.{option_map};
-ghost use Rattle.plan_owners.specs.Users.{fields_of, is_number, names_of, number_of, user_by, user_in, users_at, users_in, users_of, users_of_found};
+ghost use Rattle.plan_owners.specs.Users.{fields_of, home_in, is_number, names_of, number_of, user_by, user_in, users_at, users_in, users_of, users_of_found};
 
 use plan_rules::{Names, text_of};
 use plan_texts::Text;
@@ -15,17 +15,23 @@ use std::alloc::{AllocError, Global};
 // The number of bytes that are read of a file: one more than a text may have.
 const MOST_READ: u64 = 1_048_577;
 
-// A user of a machine.
+/// A user of a machine.
 #[derive(Debug, Drop)]
-pub(crate) struct User {
-    // The name.
-    pub(crate) name: Text,
-    // The number, as it is written.
-    pub(crate) number: Text,
+pub struct User {
+    /// The name.
+    pub name: Text,
+    /// The number, as it is written.
+    pub number: Text,
+    /// The home directory, as it is written; empty if the line has none.
+    pub home: Text,
 }
 
-// Returns the users of a machine, or `None` if its etc/passwd can't be read.
-pub(crate) fn users_of<T: Tree>(alloc: Global, tree: &T) -> Result<Option<Vec<User>>, AllocError>
+/// Returns the users of a machine in the order of its etc/passwd (passwd(5)), or `None` if that can't be read.
+///
+/// # Errors
+///
+/// `AllocError` if an allocation fails.
+pub fn users_of<T: Tree>(alloc: Global, tree: &T) -> Result<Option<Vec<User>>, AllocError>
     ensures { T.is_known ≡ true → IfOk result (λ users.
         option_map (λ all. all.items) users ≡ users_of (T.held tree.now)) }
 {
@@ -98,11 +104,22 @@ fn user_by(alloc: Global, fields: &[&str]) -> Result<Option<User>, AllocError>
     ensures { IfOk result (λ user. user ≡ user_by (map (λ field. field.now) fields.now)) }
 {
     match fields {
-        [name, _, number, ..] if is_number(number.as_bytes()) => Ok(Some(User {
+        [name, _, number, more @ ..] if is_number(number.as_bytes()) => Ok(Some(User {
             name: Text::new(String::from_str(alloc, name)?),
             number: Text::new(String::from_str(alloc, number)?),
+            home: Text::new(String::from_str(alloc, home_in(more))?),
         })),
         _ => Ok(None),
+    }
+}
+
+// Returns the home directory among the fields after the number, or nothing.
+fn home_in<'a>(fields: &[&'a str]) -> &'a str
+    ensures { result.now ≡ home_in (map (λ field. field.now) fields.now) }
+{
+    match fields {
+        [_, _, home, ..] => home,
+        _ => "",
     }
 }
 
