@@ -3,3 +3,4 @@ pub mod Pieces
 pub mod Commands
 pub mod Reading
 pub mod Tree
+pub mod Grammar

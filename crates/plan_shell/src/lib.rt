@@ -12,8 +12,10 @@ mod modes;
 mod pieces;
 mod reader;
 mod step;
+mod theorem;
 mod tokens;
 mod words;
 
 pub use list::ShellList;
 pub use step::{Property, Step};
+pub use theorem::read_is_in_grammar;
