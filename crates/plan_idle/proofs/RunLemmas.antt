@@ -7,7 +7,9 @@ use Rattle.plan_idle.specs.declared.answer.Answer.{Answer}
 use Rattle.plan_idle.specs.declared.answer.Answer.TheVariants.{Yes, No, Unknown, Acts}
 use Rattle.plan_idle.specs.declared.outcomes.Outcomes.{Outcomes}
 use Rattle.plan_shell.specs.declared.step.Property.{Property}
-use Rattle.plan_idle.specs.Outcomes.{after_false, after_true, and_outcomes, both, either, if_outcomes, known, looked_at, not_outcomes, or_outcomes, outcomes, top_outcomes, weighed, weighed_all}
+use Rattle.plan_idle.specs.Outcomes.{after_false, after_true, and_outcomes, both, either, if_outcomes, known, looked_at, not_outcomes, or_outcomes, outcomes}
+use Rattle.plan_idle.specs.Gathered.{Gathered, gathered_of, top_gathered, weighed, weighed_all}
+use Rattle.plan_idle.specs.Scripts.{directories}
 use Rattle.plan_idle.specs.Run.{Looks, Run, ran, run, run_look, size, then_run}
 
 -- what ran is among what may run
@@ -156,7 +158,8 @@ idle_runs_nothing looks values tree never =
 
 -- ---- the steps of a command
 
-weighed_is : (looks : Looks) (step : Step) (trees : List Shell) → map (outcomes looks) (with_step step trees) ≡ weighed looks step (map (outcomes looks) trees)
+weighed_is : (looks : Looks) (step : Step) (trees : List Shell)
+    → map (gathered_of looks) (with_step step trees) ≡ weighed looks step (map (gathered_of looks) trees)
 weighed_is looks (step.Look property subject) trees = refl
 weighed_is looks (step.Known value) trees = refl
 weighed_is looks step.Effect trees = refl
@@ -177,15 +180,22 @@ weighed_is looks step.If (c ∷ b ∷ []) = refl
 weighed_is looks step.If (c ∷ b ∷ a ∷ trees) = refl
 
 all_weighed : (looks : Looks) (steps : List Step) (trees : List Shell)
-    → map (outcomes looks) (with_steps steps trees) ≡ weighed_all looks steps (map (outcomes looks) trees)
+    → map (gathered_of looks) (with_steps steps trees) ≡ weighed_all looks steps (map (gathered_of looks) trees)
 all_weighed looks [] trees = refl
 all_weighed looks (step ∷ steps) trees =
     all_weighed looks steps (with_step step trees) ∙ ap (weighed_all looks steps) (weighed_is looks step trees)
 
-top_is : (looks : Looks) (trees : List Shell) → outcomes looks (top trees) ≡ top_outcomes (map (outcomes looks) trees)
+top_is : (looks : Looks) (trees : List Shell) → gathered_of looks (top trees) ≡ top_gathered (map (gathered_of looks) trees)
 top_is looks [] = refl
 top_is looks (tree ∷ trees) = refl
 
+steps_weighed : (looks : Looks) (steps : List Step) → gathered_of looks (tree_of steps) ≡ top_gathered (weighed_all looks steps [])
+steps_weighed looks steps = top_is looks (with_steps steps []) ∙ ap top_gathered (all_weighed looks steps [])
+
 -- what the steps of a command may run is what their tree may run
-pub steps_weighed : (looks : Looks) (steps : List Step) → outcomes looks (tree_of steps) ≡ top_outcomes (weighed_all looks steps [])
-steps_weighed looks steps = top_is looks (with_steps steps []) ∙ ap top_outcomes (all_weighed looks steps [])
+pub outcomes_weighed : (looks : Looks) (steps : List Step) → outcomes looks (tree_of steps) ≡ (top_gathered (weighed_all looks steps [])).outcomes
+outcomes_weighed looks steps = ap (λ (g : Gathered). g.outcomes) (steps_weighed looks steps)
+
+-- and so are the directories of their `run-parts` commands
+pub directories_weighed : (looks : Looks) (steps : List Step) → directories looks (tree_of steps) ≡ (top_gathered (weighed_all looks steps [])).dirs
+directories_weighed looks steps = ap (λ (g : Gathered). g.dirs) (steps_weighed looks steps)

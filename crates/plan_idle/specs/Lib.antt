@@ -2,3 +2,5 @@ pub mod Run
 pub mod Outcomes
 pub mod Reason
 pub mod Answers
+pub mod Scripts
+pub mod Gathered

@@ -1,8 +1,6 @@
 -- What a command may run, whatever the values are that aren't known (agenda).
-use Rattle.std.specs.Prelude.{ℕ, Bool, true, false, ◌||◌, if◌then◌else◌, List, [], ◌∷◌, Option, Some, None}
+use Rattle.std.specs.Prelude.{ℕ, Bool, true, false, ◌||◌, if◌then◌else◌, List, Option, Some, None}
 use Rattle.plan_shell.specs.declared.step.Property.{Property}
-use Rattle.plan_shell.specs.declared.step.Step.{Step}
-use Rattle.plan_shell.specs.declared.step.Step.TheVariants as step
 use Rattle.plan_shell.specs.Tree.{Shell, Look, Known, Effect, Not, Both, And, Or, If}
 use Rattle.plan_idle.specs.declared.answer.Answer.{Answer}
 use Rattle.plan_idle.specs.declared.answer.Answer.TheVariants.{Yes, No, Unknown, Acts}
@@ -77,40 +75,3 @@ outcomes looks (Both a b) = both (outcomes looks a) (outcomes looks b)
 outcomes looks (And a b) = and_outcomes (outcomes looks a) (outcomes looks b)
 outcomes looks (Or a b) = or_outcomes (outcomes looks a) (outcomes looks b)
 outcomes looks (If a b c) = if_outcomes (outcomes looks a) (outcomes looks b) (outcomes looks c)
-
--- ---- the same over the steps of a command
-
--- a step takes the outcomes of its parts from a stack, of which the last is the first here, and adds its own
-abbrev pub weighed_one : List Outcomes → List Outcomes
-weighed_one [] = []
-weighed_one (a ∷ stack) = not_outcomes a ∷ stack
-
-abbrev pub weighed_two : (Outcomes → Outcomes → Outcomes) → List Outcomes → List Outcomes
-weighed_two joined [] = []
-weighed_two joined (b ∷ []) = []
-weighed_two joined (b ∷ a ∷ stack) = joined a b ∷ stack
-
-abbrev pub weighed_three : List Outcomes → List Outcomes
-weighed_three [] = []
-weighed_three (c ∷ []) = []
-weighed_three (c ∷ b ∷ []) = []
-weighed_three (c ∷ b ∷ a ∷ stack) = if_outcomes a b c ∷ stack
-
-abbrev pub weighed : Looks → Step → List Outcomes → List Outcomes
-weighed looks (step.Look property subject) stack = looked_at property subject (looks property subject) ∷ stack
-weighed looks (step.Known value) stack = known value None ∷ stack
-weighed looks step.Effect stack = effect ∷ stack
-weighed looks step.Not stack = weighed_one stack
-weighed looks step.Both stack = weighed_two both stack
-weighed looks step.And stack = weighed_two and_outcomes stack
-weighed looks step.Or stack = weighed_two or_outcomes stack
-weighed looks step.If stack = weighed_three stack
-
-abbrev pub weighed_all : Looks → List Step → List Outcomes → List Outcomes
-weighed_all looks [] stack = stack
-weighed_all looks (step ∷ steps) stack = weighed_all looks steps (weighed looks step stack)
-
--- the outcomes of the whole command
-abbrev pub top_outcomes : List Outcomes → Outcomes
-top_outcomes [] = known true None
-top_outcomes (a ∷ stack) = a

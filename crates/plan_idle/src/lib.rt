@@ -1,22 +1,27 @@
 //! Says which commands of jobs are idle: nothing with an effect can run.
 //!
-//! Read `theorem` first: it says what idle means. `idle` says which commands are idle and why, by `outcomes`, what a
-//! command may run. `answer` is what a command finds where it looks, and `tree_looks` what that is in a tree of files, by
-//! `files` and `run_parts`.
+//! Read `theorem` first: it says what idle means. `idle` says which commands are idle and why, and `script_paths` which
+//! scripts of `run-parts` a command may run. Both go by `weighing`: what the steps of a command may run, which is its
+//! `outcomes` and, in `gathered`, the directories of its scripts. `answer` is what a command finds where it looks, and
+//! `tree_looks` what that is in a tree of files, by `files` and `run_parts`.
 #![tactic(auto)]
 
 mod answer;
 mod files;
+mod gathered;
 mod idle;
 mod outcomes;
 mod reason;
 mod run_parts;
+mod script_paths;
 mod stack;
 mod theorem;
 mod tree_looks;
+mod weighing;
 
 pub use answer::{Answer, Look};
 pub use idle::idle_reason;
 pub use run_parts::scripts;
+pub use script_paths::scripts_run;
 pub use theorem::idle_runs_nothing;
 pub use tree_looks::TreeLooks;

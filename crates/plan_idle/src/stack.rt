@@ -1,47 +1,47 @@
-//! The outcomes of the commands that were read, for those that they are parts of.
+//! What the commands may run that were read, for those that they are parts of.
 
 ghost use Rattle.std.specs.Prelude.{◌≡◌, ◌∷◌, [], MatchOption, OnOk};
 
-use crate::outcomes::Outcomes;
+use crate::gathered::Gathered;
 use std::alloc::{AllocError, Global};
 use std::marker::Model;
 
-/// Outcomes of commands, the last one first.
+/// What commands may run, the last one first.
 #[derive(Drop)]
 pub(crate) struct Stack {
-    outcomes: Vec<Outcomes>,
+    gathered: Vec<Gathered>,
 }
 
 impl Model for Stack {
     ghost use Rattle.std.specs.Prelude.{List, reverse};
-    ghost use Rattle.plan_idle.specs.declared.outcomes.Outcomes.{Outcomes};
+    ghost use Rattle.plan_idle.specs.Gathered.{Gathered};
 
-    ghost Value = { List Outcomes };
+    ghost Value = { List Gathered };
 
-    ghost view = { λ stack. reverse stack.outcomes.items };
+    ghost view = { λ stack. reverse stack.gathered.items };
 }
 
 impl Stack {
-    /// Returns no outcomes.
+    /// Returns no commands.
     pub(crate) fn new(alloc: Global) -> Stack
         ensures { result ≡ [] }
     {
         Stack {
-            outcomes: Vec::new(alloc),
+            gathered: Vec::new(alloc),
         }
     }
 
-    /// Adds the outcomes of a command.
-    pub(crate) fn push(&mut self, outcomes: Outcomes) -> Result<(), AllocError>
-        ensures { OnOk result (self.new ≡ outcomes ∷ self.old) }
+    /// Adds what a command may run.
+    pub(crate) fn push(&mut self, gathered: Gathered) -> Result<(), AllocError>
+        ensures { OnOk result (self.new ≡ gathered ∷ self.old) }
     {
-        Ok(self.outcomes.push(outcomes)?)
+        Ok(self.gathered.push(gathered)?)
     }
 
-    /// Takes the outcomes of the last command.
-    pub(crate) fn pop(&mut self) -> Option<Outcomes>
+    /// Takes what the last command may run.
+    pub(crate) fn pop(&mut self) -> Option<Gathered>
         ensures { MatchOption result ((self.old ≡ []) × (self.new ≡ [])) (λ a. self.old ≡ a ∷ self.new) }
     {
-        self.outcomes.pop()
+        self.gathered.pop()
     }
 }

@@ -1,7 +1,7 @@
 //! What a command finds where it looks in a tree.
 
 ghost use Rattle.std.specs.Prelude.{◌≡◌, true, IfOk, map, option_map, string_bytes};
-ghost use Rattle.plan_idle.specs.Answers.{answer_among, answer_in, dirs_of, or_answer, path_in, path_or_default};
+ghost use Rattle.plan_idle.specs.Answers.{answer_among, answer_at, answer_in, dirs_of, or_answer, path_in, path_or_default};
 ghost use Rattle.plan_idle.specs.declared.answer.Answer.TheVariants.{No};
 
 use crate::answer::{Answer, Look};
@@ -24,7 +24,10 @@ pub struct TreeLooks<'a, T: Tree> {
 
 impl<'a, T: Tree> TreeLooks<'a, T> {
     /// Returns a tree in which commands look for files. `path` is the crontab's last setting of PATH above the line.
-    pub fn new(tree: &'a T, path: Option<&'a str>) -> TreeLooks<'a, T> {
+    pub fn new(tree: &'a T, path: Option<&'a str>) -> TreeLooks<'a, T>
+        ensures { ⟦<TreeLooks<'a, T> as Look>⟧.looks result
+            ≡ answer_at (T.held tree.now) (option_map (λ path. path.now) path.entry) }
+    {
         TreeLooks { tree, path }
     }
 }

@@ -1,6 +1,6 @@
 use Rattle.std.proofs.Common.{◌≡◌, true, [], drop}
-use Rattle.plan_idle.specs.Outcomes.{weighed_all}
-use Rattle.plan_idle.proofs.idle.outcomes_of.Given as goal
+use Rattle.plan_idle.specs.Gathered.{weighed_all}
+use Rattle.plan_idle.proofs.weighing.gathered_of.Given as goal
 
 -- the steps that are left, after those so far, leave what all steps leave
 abbrev pub invariant-loop-step : goal.invariant-loop-step
