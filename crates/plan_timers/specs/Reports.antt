@@ -3,7 +3,7 @@ use Rattle.std.specs.Prelude.{ℕ, List, ◌++◌, codes}
 use Rattle.plan_timers.specs.declared.reports.Why.{Why}
 use Rattle.plan_timers.specs.declared.reports.Why.TheVariants.{NoLink, BadName, Escape, NoSuchTimer, Masked, NotReadable, NameTaken, NotUtf8, WantedBy}
 use Rattle.plan_timers.specs.declared.reports.Unplanned.{Unplanned}
-use Rattle.plan_timers.specs.declared.reports.Unplanned.TheVariants.{Anacron, Monotonic, AtJobs, UserTimers, UnitMissing, UnitMasked, UnitIdle, NotLoaded, LineNotLoaded}
+use Rattle.plan_timers.specs.declared.reports.Unplanned.TheVariants.{Anacron, Monotonic, AtJobs, UserTimers, UnitMissing, UnitMasked, UnitIdle, NotLoaded, LineNotLoaded, Idle}
 
 -- why something is skipped
 abbrev pub why_text : Why → List ℕ
@@ -28,3 +28,4 @@ unplanned_text (UnitMasked unit) = codes "its unit " ++ unit ++ codes " is maske
 unplanned_text (UnitIdle unit) = codes "its unit " ++ unit ++ codes " has no ExecStart="
 unplanned_text (NotLoaded why) = why
 unplanned_text (LineNotLoaded line why) = why
+unplanned_text (Idle line why) = why

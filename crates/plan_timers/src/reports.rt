@@ -87,6 +87,8 @@ pub enum Unplanned {
     NotLoaded(Text),
     /// The same for what has this line, or for the whole file because of this line.
     LineNotLoaded(u32, Text),
+    /// The command of this line runs nothing that has an effect, for this reason.
+    Idle(u32, Text),
 }
 
 impl Unplanned {
@@ -112,6 +114,7 @@ impl Unplanned {
             }
             Unplanned::NotLoaded(why) => copy_of(alloc, why.as_str()),
             Unplanned::LineNotLoaded(_, why) => copy_of(alloc, why.as_str()),
+            Unplanned::Idle(_, why) => copy_of(alloc, why.as_str()),
         }
     }
 }

@@ -1,0 +1,3 @@
+pub mod SettingsLemmas
+pub mod IdleLemmas
+pub mod TextLemmas

@@ -1,0 +1,4 @@
+use Rattle.plan_runs.proofs.idle.command_why.Goals as goal
+
+pub returns-in-Some : goal.returns-in-Some
+returns-in-Some g c = rw c.in-Some.is (rw c.new.ensures at c.idle_reason.ensures.reason)

@@ -1,0 +1,5 @@
+pub mod Texts
+pub mod Settings
+pub mod Commands
+pub mod Idle
+pub mod Scripts
