@@ -1,0 +1,5 @@
+pub mod Managers
+pub mod Dirs
+pub mod Lingering
+pub mod Found
+pub mod Timers
