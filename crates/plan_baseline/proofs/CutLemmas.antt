@@ -1,8 +1,10 @@
 -- A text is cut at its first such byte, as `memchr` finds it.
-use Rattle.std.proofs.Common.{◌≡◌, ℕ, zero, suc, ◌+◌, ◌<◌, true, List, [], ◌∷◌, length, take, drop, None, Some, ap, arith, refl, ◌∙◌}
+use Rattle.std.proofs.Common.{◌≡◌, ℕ, zero, suc, ◌+◌, ◌<◌, ◌==◌, true, false, true≢false, List, [], ◌∷◌, ◌++◌, length, take, drop, Option, None, Some, ap, arith, refl, sym, ◌∙◌}
 use Rattle.std.proofs.lemmas.Bool.Decides.{nat_tests}
+use Rattle.std.proofs.lemmas.Option.{same_Some}
 use Rattle.memchr.specs.Find.{Nowhere, Passes, is_byte}
 use Rattle.plan_texts.specs.Text.{after_text, cut_at}
+use Rattle.plan_baseline.specs.ReadBack.{HasNone}
 
 -- a text whose first byte isn't the mark is cut after that byte
 pub cut_later :
@@ -32,3 +34,25 @@ cut_at_place mark (b ∷ bytes) (suc place) short none is =
     cut_later mark b bytes (none 0 (omega arith) (omega arith))
     ∙ ap (after_text (b ∷ [])) (cut_at_place mark bytes place (omega arith) (λ k low high. none (suc k) (omega arith) (omega arith)) is)
     ∙ ap (λ k. Some (b ∷ take place bytes, drop k (b ∷ bytes))) next
+
+-- a text is cut at a mark that isn't before
+pub cut_first : (mark : ℕ) (a b : List ℕ) → HasNone mark a → cut_at (mark ∷ []) (a ++ mark ∷ b) ≡ Some (a, b)
+cut_first mark [] b none = cut_here mark mark b (grind (arith, nat_tests))
+cut_first mark (x ∷ a) b none =
+    let here : (x == mark) ≡ false = grind (arith, nat_tests) in
+    let later : HasNone mark a = grind (arith, nat_tests) in
+    cut_later mark x (a ++ mark ∷ b) (λ is. true≢false (sym is ∙ here)) ∙ ap (after_text (x ∷ [])) (cut_first mark a b later)
+
+after_again :
+    (mark b : ℕ) (bytes : List ℕ) (cut : Option (List ℕ × List ℕ)) (front back : List ℕ) →
+    ((f g : List ℕ) → cut ≡ Some (f, g) → bytes ≡ f ++ mark ∷ g) → after_text (b ∷ []) cut ≡ Some (front, back) → b ∷ bytes ≡ front ++ mark ∷ back
+after_again mark b bytes None front back more is = absurd (cc is)
+after_again mark b bytes (Some (f, g)) front back more is =
+    let parts = same_Some _ _ is in
+    ap (λ t. b ∷ t) (more f g refl) ∙ ap (λ p. p.0 ++ mark ∷ p.1) parts
+
+-- a text that is cut at a byte is what comes before it, the byte, and what comes after it
+pub cut_again : (mark : ℕ) (text front back : List ℕ) → cut_at (mark ∷ []) text ≡ Some (front, back) → text ≡ front ++ mark ∷ back
+unfolding cut_at
+cut_again mark [] front back is = absurd (cc is)
+cut_again mark (b ∷ bytes) front back is = grind (arith, nat_tests, after_again, cut_again mark bytes)

@@ -1,3 +1,4 @@
+pub mod ClockLemmas
 pub mod CutLemmas
 pub mod LineLemmas
 pub mod LoopLemmas
@@ -6,3 +7,4 @@ pub mod PlainLemmas
 pub mod ReadBackLemmas
 pub mod TimeLemmas
 pub mod UniqueLemmas
+pub mod Utf8Lemmas

@@ -4,7 +4,8 @@ use Rattle.std.proofs.lemmas.Bool.Decides.{nat_tests}
 use Rattle.std.proofs.lemmas.List.{append_assoc, drop_at, length-append, take-append-drop, take_at}
 use Rattle.std.proofs.lemmas.Option.{same_Some}
 use Rattle.std.specs.Result.{result_ok}
-use Rattle.plan_texts.specs.Text.{after_text, cut_at}
+use Rattle.std.specs.Str.{IsUtf8}
+use Rattle.plan_texts.specs.Text.{cut_at}
 use Rattle.plan_next.specs.Span.{Bounds}
 use Rattle.plan_next.specs.declared.span.SpanFault.{SpanFault}
 use Rattle.plan_next.specs.declared.span.SpanFault.TheVariants.{Backwards, OutOfYears}
@@ -12,8 +13,10 @@ use Rattle.plan_sets.specs.Limits.{end_second}
 use Rattle.plan_baseline.specs.declared.lines.Header.{Header}
 use Rattle.plan_baseline.specs.declared.lines.Place.{Place}
 use Rattle.plan_baseline.specs.Line.{Line, is_within, line_at, part, place_of}
-use Rattle.plan_baseline.specs.Reading.{AreBounds, BeginsWithLine, Head, IsHeader, IsHeadRead, IsLine, IsLineRead, columns, first_line, head_of}
+use Rattle.plan_baseline.specs.Reading.{AreBounds, BeginsWithLine, BeginsWithTime, Head, IsHeader, IsHeadRead, IsLine, IsLineRead, columns, first_line, head_of, second_column}
 use Rattle.plan_baseline.specs.Times.{IsTimeOf}
+use Rattle.plan_baseline.proofs.CutLemmas.{cut_again}
+use Rattle.plan_baseline.proofs.Utf8Lemmas.{utf8_parts}
 use Rattle.plan_baseline.proofs.TimeLemmas.{time_unique}
 
 -- ---- no other reading
@@ -58,21 +61,54 @@ no_span since upto first last (Err OutOfYears) since_is upto_is backwards late N
     absurd (omega (arith, (late.0 refl).1, upto_is.0))
 no_span since upto first last made since_is upto_is backwards late (Some span) is = tt
 
+-- ---- the columns of a line
+
+-- a line has these columns if it is cut at its first tab, and what follows at the next one
+pub columns_by :
+    (text time rest : List ℕ) (parts : List ℕ × List ℕ) → cut_at (9 ∷ []) text ≡ Some (time, rest) → cut_at (9 ∷ []) rest ≡ Some parts →
+    columns text ≡ Some (time, parts)
+columns_by text time rest parts first second = ap second_column first ∙ ap (option_map (λ p. (time, p))) second
+
+second_of :
+    (time first : List ℕ) (parts : List ℕ × List ℕ) (cut : Option (List ℕ × List ℕ)) →
+    option_map {U = List ℕ × (List ℕ × List ℕ)} (λ p. (time, p)) cut ≡ Some (first, parts) → (time ≡ first) × (cut ≡ Some parts)
+second_of time first parts None is = absurd (cc is)
+second_of time first parts (Some p) is =
+    let same = same_Some _ _ is in
+    (ap (λ t. t.0) same, ap (λ t. Some t.1) same)
+
+first_of :
+    (first : List ℕ) (parts : List ℕ × List ℕ) (cut : Option (List ℕ × List ℕ)) → second_column cut ≡ Some (first, parts) →
+    (rest : List ℕ) × (cut ≡ Some (first, rest))
+first_of first parts None is = absurd (cc is)
+first_of first parts (Some (time, rest)) is =
+    (rest, ap (λ t. Some (t, rest)) (second_of time first parts (cut_at (9 ∷ []) rest) is).0)
+
+-- no line is one of a start if it doesn't begin with a time
+pub no_time :
+    (from upto : ℕ) (text : List ℕ) → ((second : ℕ) (rest : List ℕ) → ¬ BeginsWithTime text second rest) →
+    (line : Line) → ¬ IsLine from upto text line
+no_time from upto text none line is =
+    let front = first_of is.time (line.job, line.runs) (cut_at (9 ∷ []) text) is.columns_are in
+    none line.second front.0 (is.time, front.1, is.time_is)
+
+-- or if no tab follows
+pub no_job :
+    (from upto : ℕ) (text rest : List ℕ) (second : ℕ) → BeginsWithTime text second rest → None ≡ cut_at (9 ∷ []) rest →
+    (line : Line) → ¬ IsLine from upto text line
+no_job from upto text rest second begins none line is =
+    let next = second_of begins.0 is.time (line.job, line.runs) (cut_at (9 ∷ []) rest)
+    (sym (ap second_column begins.1) ∙ is.columns_are) in
+    absurd (cc (none ∙ next.1))
+
+-- a line that begins with a time, and has a tab after that, is one of a start at its second alone
+pub second_by :
+    (from upto : ℕ) (text rest : List ℕ) (second : ℕ) (parts : List ℕ × List ℕ) (line : Line) → BeginsWithTime text second rest →
+    Some parts ≡ cut_at (9 ∷ []) rest → IsLine from upto text line → (from ≤ second) × (second < upto)
+second_by from upto text rest second parts line begins next is =
+    line_second from upto text begins.0 parts second line (columns_by text begins.0 rest parts begins.1 (sym next)) begins.2 is
+
 -- ---- where the parts of a line are
-
-after_again :
-    (mark b : ℕ) (bytes : List ℕ) (cut : Option (List ℕ × List ℕ)) (front back : List ℕ) →
-    ((f g : List ℕ) → cut ≡ Some (f, g) → bytes ≡ f ++ mark ∷ g) → after_text (b ∷ []) cut ≡ Some (front, back) → b ∷ bytes ≡ front ++ mark ∷ back
-after_again mark b bytes None front back more is = absurd (cc is)
-after_again mark b bytes (Some (f, g)) front back more is =
-    let parts = same_Some _ _ is in
-    ap (λ t. b ∷ t) (more f g refl) ∙ ap (λ p. p.0 ++ mark ∷ p.1) parts
-
--- a text that is cut at a byte is what comes before it, the byte, and what comes after it
-pub cut_again : (mark : ℕ) (text front back : List ℕ) → cut_at (mark ∷ []) text ≡ Some (front, back) → text ≡ front ++ mark ∷ back
-unfolding cut_at
-cut_again mark [] front back is = absurd (cc is)
-cut_again mark (b ∷ bytes) front back is = grind (arith, nat_tests, after_again, cut_again mark bytes)
 
 columns_again :
     (text first second rest : List ℕ) → columns text ≡ Some (first, (second, rest)) → text ≡ first ++ 9 ∷ (second ++ 9 ∷ rest)
@@ -80,6 +116,10 @@ columns_again text first second rest is = grind (arith, nat_tests, cut_again)
 
 line_again : (text line rest : List ℕ) → first_line text ≡ Some (line, rest) → text ≡ line ++ 10 ∷ rest
 line_again text line rest is = grind (arith, nat_tests, cut_again)
+
+-- what follows the first line of a text that is UTF-8
+pub rest_utf8 : (text line rest : List ℕ) → first_line text ≡ Some (line, rest) → IsUtf8 text → IsUtf8 rest
+rest_utf8 text line rest is utf8 = (utf8_parts line rest (subst IsUtf8 (line_again text line rest is) utf8)).1
 
 -- what follows the first line is at the end of the text
 pub after_line :

@@ -3,6 +3,7 @@ use Rattle.std.proofs.Common.{◌≡◌, ℕ, suc, ◌+◌, ◌-◌, ◌<◌, �
 use Rattle.std.proofs.lemmas.Bool.Decides.{nat_tests}
 use Rattle.std.proofs.lemmas.List.{append-nil, append_assoc, drop_all, drop_more, map-append}
 use Rattle.std.specs.List.{list_all}
+use Rattle.std.specs.Str.{IsUtf8}
 use Rattle.plan_baseline.specs.declared.lines.Place.{Place}
 use Rattle.plan_baseline.specs.declared.fault.BaselineFault.{BaselineFault}
 use Rattle.plan_baseline.specs.declared.fault.BaselineFault.TheVariants.{BadLine, NoMemory}
@@ -43,33 +44,38 @@ all_more p [] place all is = grind (arith, nat_tests)
 all_more p (first ∷ places) place all is = grind (arith, nat_tests, all_more p places place)
 
 -- after so many lines: where the next one starts, the second of the last, and the places of all
-pub record IsAt (text : List ℕ) (start : ℕ) (head : Head) (number at from : ℕ) (places : List Place) : Type 0 where
+pub record IsAt (is_utf8 : Bool) (text : List ℕ) (start : ℕ) (head : Head) (number at from : ℕ) (places : List Place) : Type 0 where
   pub inside : at ≤ length text
+  pub utf8 : IsTrue is_utf8 → IsUtf8 (drop at text)
   pub few : number ≤ head.count
   pub within : IsTrue (list_all (is_within (length text)) places)
   pub goes_on :
       (read : Lines) → AreRead (head.count - number) (number + 2) head.span.upto from (drop at text) read →
       AreReadAfter head (drop start text) (before (map (line_at text) places) read)
 
-pub begun : (text : List ℕ) (start : ℕ) (head : Head) → start ≤ length text → IsAt text start head 0 start head.span.since []
-begun text start head inside =
+pub begun :
+    (is_utf8 : Bool) (text : List ℕ) (start : ℕ) (head : Head) → start ≤ length text → (IsTrue is_utf8 → IsUtf8 (drop start text)) →
+    IsAt is_utf8 text start head 0 start head.span.since []
+begun is_utf8 text start head inside utf8 =
     let all : head.count - 0 ≡ head.count = omega arith in
     let first : 0 + 2 ≡ 2 = refl in
     record {
       inside = inside;
+      utf8 = utf8;
       few = omega arith;
       within = grind (arith, nat_tests);
       goes_on = λ read are. subst (AreReadAfter head (drop start text)) (before-none read)
           (subst (λ k. AreRead k 2 head.span.upto head.span.since (drop start text) read) all are);
     }
 
-module _ (text : List ℕ) (start : ℕ) (head : Head) (number at from : ℕ) (places : List Place)
-    (is : IsAt text start head number at from places) where
+module _ (is_utf8 : Bool) (text : List ℕ) (start : ℕ) (head : Head) (number at from : ℕ) (places : List Place)
+    (is : IsAt is_utf8 text start head number at from places) where
   pub more :
       (place : Place) → number < head.count → IsTrue (is_within (length text) place) →
       BeginsWithLine from head.span.upto (drop at text) (line_at text place) (drop (place.end + 1) text) →
-      IsAt text start head (number + 1) (place.end + 1) place.second (places ++ place ∷ [])
-  more place short within begins =
+      (IsTrue is_utf8 → IsUtf8 (drop (place.end + 1) text)) →
+      IsAt is_utf8 text start head (number + 1) (place.end + 1) place.second (places ++ place ∷ [])
+  more place short within begins utf8 =
       let left : suc (head.count - (number + 1)) ≡ head.count - number = omega (arith, short) in
       let next : number + 1 + 2 ≡ number + 2 + 1 = omega arith in
       let rest = drop (place.end + 1) text in
@@ -77,6 +83,7 @@ module _ (text : List ℕ) (start : ℕ) (head : Head) (number at from : ℕ) (p
       map-append (line_at text) places (place ∷ []) in
       record {
         inside = grind (arith, nat_tests, within);
+        utf8 = utf8;
         few = omega (arith, short);
         within = all_more (is_within (length text)) places place is.within within;
         goes_on = λ read are.

@@ -1,5 +1,5 @@
 -- The text of an agenda is read back.
-use Rattle.std.proofs.Common.{◌≡◌, ℕ, zero, suc, ◌+◌, ◌-◌, ◌<◌, ◌≤◌, ◌^◌, ◌==◌, ◌||◌, nat_lt, Bool, true, false, true≢false, if◌then◌else◌, ℤ, pos, negsuc, nat_abs, List, [], ◌∷◌, ◌++◌, codes, decimal, length, map, take, Option, None, Some, Ok, min, option_map, slice_get, ap, arith, inl, inr, refl, subst, sym, ◌∙◌}
+use Rattle.std.proofs.Common.{◌≡◌, ℕ, zero, suc, ◌+◌, ◌-◌, ◌<◌, ◌≤◌, ◌^◌, ◌==◌, ◌||◌, nat_lt, Bool, true, false, true≢false, if◌then◌else◌, ℤ, pos, negsuc, nat_abs, List, [], ◌∷◌, ◌++◌, codes, decimal, length, map, Option, None, Some, Ok, min, option_map, slice_get, ap, arith, inl, inr, refl, subst, sym, ◌∙◌}
 use Rattle.std.proofs.lemmas.Bool.{and_parts}
 use Rattle.std.proofs.lemmas.Bool.Decides.{nat_tests}
 use Rattle.std.proofs.lemmas.Fmt.{IsAscii-decimal, decimal_is_IsNumeral}
@@ -11,7 +11,7 @@ use Rattle.std.proofs.lemmas.Str.Parse.{digit_from_value}
 use Rattle.std.specs.List.{flat_map, list_all}
 use Rattle.std.specs.Str.{IsAscii, IsUtf8}
 use Rattle.std.specs.Str.Parse.{AllDigits}
-use Rattle.plan_texts.specs.Text.{after_text, cut_at}
+use Rattle.plan_texts.specs.Text.{cut_at}
 use Rattle.plan_sets.specs.Limits.{end_second}
 use Rattle.plan_sets.specs.Moment.{moment_text_of}
 use Rattle.plan_clock.specs.Rows.{is_bounded, is_near, natural, row_at, shown}
@@ -28,28 +28,15 @@ use Rattle.plan_baseline.specs.Line.{Line}
 use Rattle.plan_baseline.specs.ReadBack.{AgendasAreReadBack, AreInOrder, AreReadable, HasNone, IsAgenda, IsColumn, IsReadable, IsZone, line_of_job, listing_of}
 use Rattle.plan_baseline.specs.Reading.{AreRead, BeginsWithHeader, BeginsWithLine, Head, IsReading, columns, first_line, is_mark, second_column, utf8_line}
 use Rattle.plan_baseline.specs.Times.{IsLocal, IsTimeOf}
-use Rattle.plan_baseline.proofs.CutLemmas.{cut_here, cut_later}
+use Rattle.plan_baseline.proofs.CutLemmas.{cut_first}
 use Rattle.plan_baseline.proofs.LoopLemmas.{all_read, one_more}
-use Rattle.plan_baseline.proofs.PlainLemmas.{Plain, moment_plain, plain_utf8}
+use Rattle.plan_baseline.proofs.PlainLemmas.{Plain, moment_plain, plain_none, plain_utf8, time_plain}
 use Rattle.plan_baseline.proofs.UniqueLemmas.{reading_unique}
 
 -- ---- columns
 
 none_append : (byte : ℕ) (a b : List ℕ) → HasNone byte a → HasNone byte b → HasNone byte (a ++ b)
 none_append byte a b first second = list_any-append (λ x. x == byte) a b ∙ (λ i. first i || second i)
-
-cut_first : (mark : ℕ) (a b : List ℕ) → HasNone mark a → cut_at (mark ∷ []) (a ++ mark ∷ b) ≡ Some (a, b)
-cut_first mark [] b none = cut_here mark mark b (grind (arith, nat_tests))
-cut_first mark (x ∷ a) b none =
-    let here : (x == mark) ≡ false = grind (arith, nat_tests) in
-    let later : HasNone mark a = grind (arith, nat_tests) in
-    cut_later mark x (a ++ mark ∷ b) (λ is. true≢false (sym is ∙ here)) ∙ ap (after_text (x ∷ [])) (cut_first mark a b later)
-
-plain_none : (byte : ℕ) (bytes : List ℕ) → byte < 43 → Plain bytes → HasNone byte bytes
-plain_none byte [] low plain = refl
-plain_none byte (b ∷ bytes) low plain =
-    let here : (b == byte) ≡ false = (let from = plain.0 in grind (arith, nat_tests)) in
-    λ i. here i || plain_none byte bytes low plain.2 i
 
 each_below : (text : List ℕ) → list_all (λ b. nat_lt b 128) text ≡ true → IsAscii text
 each_below [] all k = omega arith
@@ -81,19 +68,6 @@ record IsTimeText (text : List ℕ) (second : ℕ) : Type 0 where
 utc_text : (n : ℕ) → n ≤ end_second → IsTimeText (moment_text_of n) n
 utc_text n years = record { is = (years, inl refl); plain = moment_plain n years }
 
-take_plain : (k : ℕ) (bytes : List ℕ) → Plain bytes → Plain (take k bytes)
-take_plain zero bytes plain = tt
-take_plain (suc k) [] plain = tt
-take_plain (suc k) (b ∷ bytes) plain = (plain.0, plain.1, take_plain k bytes plain.2)
-
-append_plain : (a b : List ℕ) → Plain a → Plain b → Plain (a ++ b)
-append_plain [] b first second = second
-append_plain (x ∷ a) b first second = (first.0, first.1, append_plain a b first.2 second)
-
-offset_plain : (offset : ℤ) → nat_abs offset < 360000 → Plain (offset_text offset)
-offset_plain (pos n) near = grind (arith, nat_tests)
-offset_plain (negsuc n) near = grind (arith, nat_tests)
-
 near_offset : (offset : ℤ) → is_near offset ≡ true → nat_abs offset < 360000
 near_offset (pos n) near = grind (arith, nat_tests)
 near_offset (negsuc n) near = grind (arith, nat_tests)
@@ -119,9 +93,7 @@ row_time row n true bounded years is =
     } in
     record {
       is = (years, inr local);
-      plain =
-          append_plain (date_time (natural (shown row n))) (offset_text row.offset)
-          (take_plain 19 (moment_text_of (natural (shown row n))) (moment_plain (natural (shown row n)) inside.0)) (offset_plain row.offset near);
+      plain = time_plain _ n (years, inr local);
     }
 
 time_is : (local : Option NamedZone) (n : ℕ) → IsZone local → n ≤ end_second → IsTimeText (time_text local n) n

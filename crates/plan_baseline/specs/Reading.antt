@@ -31,6 +31,10 @@ second_column (Some (first, rest)) = option_map (λ parts. (first, parts)) (cut_
 abbrev pub columns : List ℕ → Option (List ℕ × (List ℕ × List ℕ))
 columns line = second_column (cut_at (codes "\t") line)
 
+-- the first column of a line is the text of a second, and this follows the tab after it
+abbrev pub BeginsWithTime : (line : List ℕ) → (second : ℕ) → (rest : List ℕ) → Type 0
+BeginsWithTime line second rest = (time : List ℕ) × (cut_at (codes "\t") line ≡ Some (time, rest)) × IsTimeOf time second
+
 -- ---- the header
 
 -- what a header says: the span of the agenda, and the number of its lines

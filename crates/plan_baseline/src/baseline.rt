@@ -8,10 +8,11 @@ ghost use Rattle.plan_baseline.specs.Line.{AreOrdered, is_within, line_at, line_
 ghost use Rattle.plan_baseline.specs.Reading.{AreReadAfter, head_of, IsFaultOf, IsReading};
 
 use crate::fault::BaselineFault;
+use crate::known::KnownTime;
 use crate::lines::{Header, Place, read_header, read_line};
 use crate::listed::Listed;
-use crate::times::KnownTime;
 use plan_next::Span;
+use simdutf8::is_utf8;
 use std::alloc::Global;
 use std::marker::Model;
 
@@ -105,11 +106,12 @@ fn places_of(alloc: Global, text: &[u8], header: Header) -> Result<Vec<Place>, B
     ensures read { IfOk result (λ places. AreReadAfter (head_of header) (drop header.start text.now) (Ok (map (line_at text.now) places.items))) }
     ensures fault { IfErr result (IsFaultOf (λ number. AreReadAfter (head_of header) (drop header.start text.now) (Err number))) }
 {
+    let is_utf8 = is_utf8(&text[header.start..]);
     let mut places = Vec::new(alloc);
     let mut known = KnownTime::first();
     let (mut at, mut from) = (header.start, header.span.since());
     for number in 0..header.count {
-        let Some(place) = read_line(text, at, from, header.span.upto(), &mut known) else {
+        let Some(place) = read_line(text, is_utf8, at, from, header.span.upto(), &mut known) else {
             return Err(BaselineFault::BadLine(number + 2));
         };
         places.push(place)?;

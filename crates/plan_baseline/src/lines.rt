@@ -1,16 +1,17 @@
 //! The lines of the text of an agenda.
 
-ghost use Rattle.std.specs.Prelude.{◌≡◌, ◌∷◌, [], ℕ, ◌+◌, ◌≤◌, IfNone, IfSome, IsTrue, drop, length, option_map};
-ghost use Rattle.plan_texts.specs.Text.{cut_at};
+ghost use Rattle.std.specs.Prelude.{◌≡◌, ℕ, ◌+◌, ◌≤◌, IfNone, IfSome, IsTrue, IsUtf8, drop, length, option_map};
+ghost use Rattle.std.specs.Str.{is_utf8};
 ghost use Rattle.plan_next.specs.Span.{Bounds};
 ghost use Rattle.plan_collect.specs.Limits.{most_entries};
 ghost use Rattle.plan_baseline.specs.Line.{Line, is_within, line_at, line_of, place_of};
 ghost use Rattle.plan_baseline.specs.Reading.{AreBounds, Head, IsCount, IsHeader, IsHeadRead, IsLine, IsLineRead, columns, first_line, head_of, is_mark};
 
+use crate::cuts::cut;
+use crate::known::KnownTime;
 use crate::listed::Listed;
-use crate::times::{KnownTime, read_time};
+use crate::times::read_time;
 use itoa::Buffer as Digits;
-use memchr::memchr;
 use plan_collect::MOST_ENTRIES;
 use plan_next::Span;
 use std::str;
@@ -73,7 +74,7 @@ pub(crate) fn read_header(text: &[u8]) -> Option<Header>
     ensures start { IfSome result (λ header. header.start ≤ length text.now) }
     ensures few { IfSome result (λ header. header.count ≤ most_entries) }
 {
-    let Some((line, rest)) = first_line(text) else {
+    let Some((line, rest)) = first_line(text, false) else {
         return None;
     };
     header_of(line, text.len() - rest.len())
@@ -133,18 +134,23 @@ fn read_count(text: &[u8]) -> Option<u32>
 }
 
 /// Returns the place of the line of a text that starts at `at`, which is that of a start from one second on and before another.
+/// `is_utf8` says that the text is UTF-8 from there on, or that this isn't known.
+#[inline(always)]
 pub(crate) fn read_line<'a>(
     text: &'a [u8],
+    is_utf8: bool,
     at: usize,
     from: u64,
     upto: u64,
     known: &mut KnownTime<'a>,
 ) -> Option<Place>
-    requires { at ≤ length text.now }
+    requires inside { at ≤ length text.now }
+    requires utf8 { IsTrue is_utf8 → IsUtf8 (drop at text.now) }
     ensures read { IsLineRead from upto (drop at text.now) (option_map (λ place. (line_at text.now place, drop (place.end + 1) text.now)) result) }
     ensures within { IfSome result (λ place. IsTrue (is_within (length text.now) place)) }
+    ensures utf8 { IfSome result (λ place. IsTrue is_utf8 → IsUtf8 (drop (place.end + 1) text.now)) }
 {
-    let Some((line, rest)) = first_line(&text[at..]) else {
+    let Some((line, rest)) = first_line(&text[at..], is_utf8) else {
         return None;
     };
     let Some(listed) = listed(line, from, upto, known) else {
@@ -154,12 +160,15 @@ pub(crate) fn read_line<'a>(
 }
 
 // Returns the start of a line, which is from one second on and before another.
+#[inline(always)]
 fn listed<'a>(line: &'a [u8], from: u64, upto: u64, known: &mut KnownTime<'a>) -> Option<Listed<'a>>
     ensures some { IfSome result (λ listed. IsLine from upto line.now (line_of listed)) }
     ensures none { IfNone result ((start : Line) → ¬ (IsLine from upto line.now start)) }
 {
-    let (time, job, runs) = columns(line)?;
-    let Some(second) = known.read(time) else {
+    let Some((second, rest)) = known.read_first(line) else {
+        return None;
+    };
+    let Some((job, runs)) = cut(rest, b'\t') else {
         return None;
     };
     if second < from || second >= upto {
@@ -168,15 +177,32 @@ fn listed<'a>(line: &'a [u8], from: u64, upto: u64, known: &mut KnownTime<'a>) -
     Some(Listed { second, job, runs })
 }
 
-// Returns the first line of a text and what follows its newline, if the line is UTF-8.
-fn first_line(text: &[u8]) -> Option<(&[u8], &[u8])>
+// Returns the first line of a text and what follows its newline, if the line is UTF-8. `is_utf8` says that the text is, or that
+// this isn't known.
+#[inline(always)]
+fn first_line(text: &[u8], is_utf8: bool) -> Option<(&[u8], &[u8])>
+    requires { IsTrue is_utf8 → IsUtf8 text.now }
     ensures { option_map (λ parts. (parts.0.now, parts.1.now)) result ≡ first_line text.now }
 {
-    let (line, rest) = cut(text, b'\n')?;
-    if str::from_utf8(line).is_err() {
+    let Some((line, rest)) = cut(text, b'\n') else {
+        return None;
+    };
+    if !is_text(line, is_utf8) {
         return None;
     }
     Some((line, rest))
+}
+
+// Returns whether a line is UTF-8. It isn't tested if that is known.
+#[inline(always)]
+fn is_text(line: &[u8], is_known: bool) -> bool
+    requires { IsTrue is_known → IsUtf8 line.now }
+    ensures { result ≡ is_utf8 line.now }
+{
+    if is_known {
+        return true;
+    }
+    str::from_utf8(line).is_ok()
 }
 
 // Returns the first and the second column of a line, and what follows the tab after them.
@@ -186,14 +212,4 @@ fn columns(line: &[u8]) -> Option<(&[u8], &[u8], &[u8])>
     let (first, rest) = cut(line, b'\t')?;
     let (second, rest) = cut(rest, b'\t')?;
     Some((first, second, rest))
-}
-
-// Returns what comes before and after the first such byte of a text.
-fn cut(text: &[u8], mark: u8) -> Option<(&[u8], &[u8])>
-    ensures { option_map (λ parts. (parts.0.now, parts.1.now)) result ≡ cut_at (mark ∷ []) text.now }
-{
-    let Some(place) = memchr(mark, text) else {
-        return None;
-    };
-    Some((&text[..place], &text[place + 1..]))
 }

@@ -7,53 +7,7 @@ ghost use Rattle.plan_write.specs.LocalTimes.{distance_text, offset_seconds, off
 ghost use Rattle.plan_baseline.specs.Times.{IsLocal, IsTimeRead};
 
 use plan_sets::{END_SECOND, read_moment};
-use std::marker::Model;
 use std::str;
-
-/// A time that was read. The lines of an agenda often have the time of the line before.
-#[derive(Drop)]
-pub(crate) struct KnownTime<'a> {
-    text: &'a [u8],
-    second: u64,
-}
-
-impl<'a> Model for KnownTime<'a> {
-    ghost use Rattle.std.specs.Prelude.{ℕ};
-    ghost use Rattle.plan_baseline.specs.Times.{IsTimeOf};
-
-    ghost Value = { ℕ };
-
-    ghost view = { λ known. known.second };
-
-    ghost invariant = { λ known. IsTimeOf known.text.now known.second };
-}
-
-impl<'a> KnownTime<'a> {
-    /// Returns the start of the planner's years.
-    pub(crate) fn first() -> KnownTime<'a>
-        ensures { result ≡ 0 }
-    {
-        KnownTime {
-            text: b"1970-01-01T00:00:00Z",
-            second: 0,
-        }
-    }
-
-    /// Reads a time as `read_time` does, and knows it from then on.
-    pub(crate) fn read(&mut self, text: &'a [u8]) -> Option<u64>
-        ensures { IsTimeRead text.now result }
-    {
-        if self.text == text {
-            return Some(self.second);
-        }
-        let Some(second) = read_time(text) else {
-            return None;
-        };
-        self.text = text;
-        self.second = second;
-        Some(second)
-    }
-}
 
 /// Returns the second of the planner's years whose text this is, in UTC or by some clock.
 pub(crate) fn read_time(text: &[u8]) -> Option<u64>
@@ -167,8 +121,9 @@ fn seconds_of(text: &[u8]) -> Option<u8>
     }
 }
 
-// Returns the number with these two decimal digits.
-fn number(tens: u8, ones: u8) -> Option<u8>
+/// Returns the number with these two decimal digits.
+#[inline(always)]
+pub(crate) fn number(tens: u8, ones: u8) -> Option<u8>
     ensures value { IfSome result (λ n. (n < 100) × (tens ∷ ones ∷ [] ≡ two_digits n)) }
     ensures none { IfNone result ((n : ℕ) → n < 100 → tens ∷ ones ∷ [] ≢ two_digits n) }
 {

@@ -1,9 +1,10 @@
 -- The keys of starts: their seconds, and the numbers of what they run.
-use Rattle.std.specs.Prelude.{◌≡◌, ⊤, ℕ, ◌==◌, ◌&&◌, Bool, List, [], ◌∷◌, Some, count_by, nat_lt, slice_get, IsTrue}
+use Rattle.std.specs.Prelude.{◌≡◌, ⊤, ℕ, ◌+◌, ◌<◌, ◌==◌, ◌&&◌, Bool, List, [], ◌∷◌, Some, count_by, length, nat_lt, slice_get, slice_index, IsTrue}
 use Rattle.std.specs.List.{list_all}
 use Rattle.std.specs.List.Sorted.{IsNonDecreasingBy}
 use Rattle.plan_baseline.specs.Line.{Line}
 use Rattle.plan_changes.specs.declared.keys.Key.{Key}
+use Rattle.plan_changes.specs.Lines.{texts_at}
 
 -- this is the key of a start: it has its second, and the number of what the start runs
 abbrev pub IsKeyOf : (texts : List (List ℕ)) → Line → Key → Type 0
@@ -23,6 +24,11 @@ AreEachOnce texts =
 -- each text keeps its number
 abbrev pub HaveStayed : (old new : List (List ℕ)) → Type 0
 HaveStayed old new = (number : ℕ) (text : List ℕ) → slice_get old number ≡ Some text → slice_get new number ≡ Some text
+
+-- these are the numbers of what jobs run, by the numbers of the jobs, and then that of the empty text, which no job runs (agenda)
+pub record AreNumbersOf (texts : List (List ℕ)) (jobs : List (List ℕ × List ℕ)) (numbers : List ℕ) : Type 0 where
+  pub many : length numbers ≡ length jobs + 1
+  pub are : (job : ℕ) → job < length numbers → slice_get texts (slice_index numbers job) ≡ Some (texts_at jobs job).1
 
 -- two keys are the same
 abbrev pub is_same_key : (one other : Key) → Bool

@@ -9,7 +9,7 @@ use crate::change::{Change, ChangeKind};
 use crate::job_lines::JobLines;
 use crate::keys::{Key, RunTexts};
 use crate::lacking::push_lacking;
-use crate::new_lines::NewLines;
+use crate::new_keys::keys_now;
 use plan_baseline::Baseline;
 use plan_collect::Agenda;
 use std::alloc::{AllocError, Global};
@@ -32,10 +32,9 @@ pub fn changes(
     requires { AreAscending (lines_of jobs.now now.now.entries) }
     ensures { IfOk result (λ changes. AreChanges before.now.lines (lines_of jobs.now now.now.entries) changes.items) }
 {
-    let now = NewLines::new(now, jobs);
     let mut texts = RunTexts::new(alloc);
     let before = keys_before(alloc, before, &mut texts)?;
-    let now = keys_now(alloc, &now, &mut texts)?;
+    let now = keys_now(alloc, now.entries(), jobs, &mut texts)?;
     let count = texts.len();
     // There are at least as many changes.
     let mut changes = Vec::with_capacity(alloc, before.len().abs_diff(now.len()))?;
@@ -65,25 +64,6 @@ fn keys_before<'a>(
     let mut keys = Vec::with_capacity(alloc, before.len())?;
     for place in 0..before.len() {
         if let Some(line) = before.get(place) {
-            let key = texts.key_of(&line)?;
-            keys.push(key)?;
-        }
-    }
-    Ok(keys)
-}
-
-// Returns the keys of the starts of a new agenda, in order.
-fn keys_now<'a>(
-    alloc: Global,
-    now: &'a NewLines<'_>,
-    texts: &mut RunTexts<'a>,
-) -> Result<Vec<Key>, AllocError>
-    ensures keys { IfOk result (λ keys. AreKeysOf texts.new now.now keys.items) }
-    ensures stay { OnOk result (HaveStayed texts.old texts.new) }
-{
-    let mut keys = Vec::with_capacity(alloc, now.len())?;
-    for place in 0..now.len() {
-        if let Some(line) = now.get(place) {
             let key = texts.key_of(&line)?;
             keys.push(key)?;
         }

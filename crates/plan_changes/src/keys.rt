@@ -70,8 +70,12 @@ impl<'a> RunTexts<'a> {
         })
     }
 
-    // Returns the number of a text, which is added if it is new. Most often it is that of the last text, or the next one.
-    fn number_of(&mut self, text: &'a [u8]) -> Result<usize, AllocError>
+    /// Returns the number of a text, which is added if it is new. Most often it is that of the last text, or the next one.
+    ///
+    /// # Errors
+    ///
+    /// `AllocError` if an allocation fails.
+    pub(crate) fn number_of(&mut self, text: &'a [u8]) -> Result<usize, AllocError>
         ensures number { IfOk result (λ number. slice_get self.new number ≡ Some text.now) }
         ensures kept { OnOk result (HaveStayed self.old self.new) }
     {

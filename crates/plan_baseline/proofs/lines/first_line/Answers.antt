@@ -1,10 +1,6 @@
-use Rattle.std.proofs.Common.{arith}
-use Rattle.std.proofs.lemmas.Bool.Decides.{nat_tests}
-use Rattle.std.proofs.lemmas.Str.{IsUtf8-from_is_utf8, is_utf8-from_IsUtf8}
+use Rattle.std.proofs.Common.{sym}
+use Rattle.plan_baseline.proofs.Utf8Lemmas.{cut_utf8}
 use Rattle.plan_baseline.proofs.lines.first_line.Goals as goal
 
-pub returns-then-is_err : goal.returns-then-is_err
-returns-then-is_err c = grind (arith, nat_tests, IsUtf8-from_is_utf8)
-
-pub returns : goal.returns
-returns c = grind (arith, nat_tests, is_utf8-from_IsUtf8)
+pub is_text-requires : goal.is_text-requires
+is_text-requires c = λ is. (cut_utf8 c.args.text.now c.in-Some.line.now c.in-Some.rest.now (sym c.in-Some.ensures) (c.requires is)).0

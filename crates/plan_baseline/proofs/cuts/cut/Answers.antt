@@ -1,7 +1,7 @@
 use Rattle.std.proofs.Common.{◌+◌, Some, ap, sym, take, ◌∙◌}
 use Rattle.std.proofs.lemmas.List.{take_rest}
 use Rattle.plan_baseline.proofs.CutLemmas.{cut_at_place, cut_nowhere}
-use Rattle.plan_baseline.proofs.lines.cut.Goals as goal
+use Rattle.plan_baseline.proofs.cuts.cut.Goals as goal
 
 pub returns-in_default : goal.returns-in_default
 returns-in_default c = sym (cut_nowhere c.args.mark c.args.text.now c.in_default.ensures)
