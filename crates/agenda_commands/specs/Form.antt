@@ -20,10 +20,10 @@ lines_of_table table = record { json = false; local = Some table.zone }
 abbrev pub AnswersTabled :
     (has_table : Bool) → (files : Option (List JobFile)) → TableForm → Goal → Result (List JobParts) RunFault → Result (List ℕ) RunFault →
     Type 0
-AnswersTabled true files table goal jobs answer = AnswersTable table goal jobs answer
+AnswersTabled true files table goal jobs answer = AnswersTable files table goal jobs answer
 AnswersTabled false files table goal jobs answer = AnswersWithFiles files (lines_of_table table) goal jobs answer
 
--- the answer in a form; lines have the files of jobs if these are given, and a table has none
+-- the answer in a form, with the files of the jobs if these are given
 abbrev pub AnswersForm :
     (files : Option (List JobFile)) → Form → Goal → Result (List JobParts) RunFault → Result (List ℕ) RunFault → Type 0
 AnswersForm files (form.Lines format) goal jobs answer = AnswersWithFiles files format goal jobs answer
@@ -33,6 +33,7 @@ AnswersForm files (form.Table table) goal jobs answer = AnswersTabled (has_table
 abbrev pub start_of : Goal → ℕ
 start_of (goal.Plan planning view) = planning.span.since
 start_of (goal.Upcoming after delays) = after
+start_of (goal.Scripts after) = after
 start_of (goal.Quiet planning least) = planning.span.since
 start_of (goal.Changes planning before) = planning.span.since
 

@@ -22,6 +22,7 @@ use Rattle.plan_week.specs.Week.{week_of}
 use Rattle.plan_week.specs.Texts.{week_text}
 use Rattle.plan_collect.specs.declared.sizes.Sizes.{Sizes}
 use Rattle.plan_write.specs.Quiet.{quiet_text}
+use Rattle.plan_write.specs.Scripts.{ScriptParts, scripts_of_jobs, scripts_text}
 use Rattle.plan_write.specs.Texts.{EndParts, line_end, lines_of, object_ends, text_by_ends}
 use Rattle.plan_write.specs.Upcoming.{AreUpcoming, upcoming_text}
 use Rattle.plan_write.specs.declared.Format.{Format}
@@ -47,10 +48,11 @@ abbrev pub valid_goal : Goal → Result (Unit {0}) RunFault
 valid_goal (goal.Quiet planning least) = if least == 0 then Err BadLeast else Ok tt
 valid_goal other = Ok tt
 
--- the answer has a table of its own. The hours of a week and a first entry alone are lines in each form
+-- the answer has a table of its own. The hours of a week, a first entry and the scripts of jobs alone are lines in each form
 abbrev pub has_table : Goal → Bool
 has_table (goal.Plan planning view.Week) = false
 has_table (goal.Plan planning view.First) = false
+has_table (goal.Scripts after) = false
 has_table other = true
 
 -- the sizes of the goal's plan are valid
@@ -59,6 +61,7 @@ sized_goal (goal.Plan planning view) = do
   sizes ← checked_sizes planning
   Ok (goal.Plan planning view)
 sized_goal (goal.Upcoming after delays) = Ok (goal.Upcoming after delays)
+sized_goal (goal.Scripts after) = Ok (goal.Scripts after)
 sized_goal (goal.Quiet planning least) = do
   sizes ← checked_sizes planning
   Ok (goal.Quiet planning least)
@@ -78,10 +81,10 @@ checked_goal goal = do
 abbrev pub agenda_of_jobs : List JobParts → Planning → Result Planned RunFault
 agenda_of_jobs jobs planning = step fault_of_plan (plan_answer (timings_of jobs) planning.span planning.sizes)
 
--- the ends of the lines of jobs in a format, or those of their objects in JSON if their files are given
+-- the ends of the lines of jobs in a format. In JSON they have the files of the jobs, if these are given; text is the same without them
 abbrev pub ends_of : Format → (files : Option (List JobFile)) → List JobParts → List EndParts
 ends_of format None jobs = map (line_end format.json) jobs
-ends_of format (Some files) jobs = object_ends files jobs
+ends_of format (Some files) jobs = if format.json then object_ends files jobs else map (line_end format.json) jobs
 
 -- what `plan` writes for the jobs that are planned: their agenda
 abbrev pub plan_output : Format → (files : Option (List JobFile)) → List JobParts → Planning → Result (List ℕ) RunFault
@@ -155,6 +158,16 @@ abbrev pub IsTextOfNexts :
 IsTextOfNexts format files jobs after delays text =
     (nexts : List (ℕ × ℕ)) × AreUpcoming jobs after nexts × (text ≡ upcoming_text format delays nexts (ends_of format files jobs))
 
+-- the scripts of jobs; without files no job has scripts
+abbrev pub given_scripts : (files : Option (List JobFile)) → List JobParts → List ScriptParts
+given_scripts None jobs = scripts_of_jobs [] jobs
+given_scripts (Some files) jobs = scripts_of_jobs files jobs
+
+-- what `scripts` writes for jobs: the scripts that each of them starts by run-parts, by when the jobs start next
+abbrev pub IsTextOfScripts : Format → (files : Option (List JobFile)) → List JobParts → (after : ℕ) → List ℕ → Type 0
+IsTextOfScripts format files jobs after text =
+    (nexts : List (ℕ × ℕ)) × AreUpcoming jobs after nexts × (text ≡ scripts_text format.local nexts (given_scripts files jobs))
+
 -- what `changes` writes for an agenda of jobs: how it differs from an earlier one
 abbrev pub IsTextOfChanges : Format → (before : List Line) → List JobParts → Planned → List ℕ → Type 0
 IsTextOfChanges format before jobs made text =
@@ -168,7 +181,7 @@ AnswersPlan IsText (Err fault) (Err found) = fault ≡ found
 AnswersPlan IsText made answer = ⊥
 
 -- the answer for jobs, with their files if these are given, or the first error: that of the jobs, or else that of the goal. The next
--- starts of jobs have none, and gaps and changes have no files
+-- starts of jobs and their scripts have none, and gaps and changes have no files
 abbrev pub AnswersWithFiles :
     (files : Option (List JobFile)) → Format → Goal → Result (List JobParts) RunFault → Result (List ℕ) RunFault → Type 0
 AnswersWithFiles files format goal (Err fault) answer = Err fault ≡ answer
@@ -176,6 +189,8 @@ AnswersWithFiles files format (goal.Plan planning view) (Ok jobs) answer =
     view_output view format files (counted planning.delays jobs) planning ≡ answer
 AnswersWithFiles files format (goal.Upcoming after delays) (Ok jobs) (Ok text) = IsTextOfNexts format files jobs after delays text
 AnswersWithFiles files format (goal.Upcoming after delays) (Ok jobs) (Err fault) = ⊥
+AnswersWithFiles files format (goal.Scripts after) (Ok jobs) (Ok text) = IsTextOfScripts format files jobs after text
+AnswersWithFiles files format (goal.Scripts after) (Ok jobs) (Err fault) = ⊥
 AnswersWithFiles files format (goal.Quiet planning least) (Ok jobs) answer =
     quiet_output format (counted planning.delays jobs) planning least ≡ answer
 AnswersWithFiles files format (goal.Changes planning before) (Ok jobs) answer =
@@ -206,6 +221,7 @@ text_of format (made.Downtime missed ends) = downtime_text format ends missed.it
 text_of format (made.Week agenda week) = week_text format week agenda
 text_of format (made.First first ends delays) = lines_of format delays (cons_option first []) ends
 text_of format (made.Upcoming nexts ends delays) = upcoming_text format delays nexts ends
+text_of format (made.Scripts nexts scripts) = scripts_text format.local nexts scripts
 text_of format (made.Quiet agenda jobs least) = quiet_text format least agenda jobs
 text_of format (made.Changes changes before agenda lines) =
     changes_text format before.lines (lines_of_entries lines agenda.entries) changes.items

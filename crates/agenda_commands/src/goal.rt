@@ -3,11 +3,12 @@
 ghost use Rattle.std.specs.Prelude.{◌≡◌, Err, IfErr, IfOk, IsTrue, List, Ok, OnOk, Option, false, length, option_map};
 ghost use Rattle.plan_rules.specs.Delays.{counted};
 ghost use Rattle.agenda_commands.specs.Form.{origin_at, origin_of};
-ghost use Rattle.agenda_commands.specs.Goal.{AnswersGoal, AnswersWithFiles, CanBeWritten, Makes, checked_sizes, clock_of, ends_of, finds, finds_any, has_table, sized_goal, text_of, valid_goal, week_output};
-ghost use Rattle.agenda_commands.specs.declared.goal.Goal.TheVariants.{Changes, Plan, Quiet, Upcoming as Nexts};
+ghost use Rattle.agenda_commands.specs.Goal.{AnswersGoal, AnswersWithFiles, CanBeWritten, Makes, checked_sizes, clock_of, ends_of, finds, finds_any, given_scripts, has_table, sized_goal, text_of, valid_goal, week_output};
+ghost use Rattle.agenda_commands.specs.declared.goal.Goal.TheVariants.{Changes, Plan, Quiet, Scripts, Upcoming as Nexts};
 ghost use Rattle.plan_collect.specs.declared.PlanView.TheVariants as view;
 ghost use Rattle.plan_streams.specs.Stream.{Puts};
 ghost use Rattle.plan_week.specs.Week.{week_of};
+ghost use Rattle.plan_write.specs.declared.Format.{Format};
 
 use crate::agenda_of::make_agenda;
 use crate::earlier::Earlier;
@@ -22,7 +23,8 @@ use plan_streams::{Stream, WriteFault};
 use plan_threads::Task;
 use plan_week::{Week, write_week};
 use plan_write::{
-    Format, JobFile, LineEnds, Upcoming, write_agenda, write_entry, write_quiet, write_upcoming,
+    Format, JobFile, JobScripts, LineEnds, Upcoming, write_agenda, write_entry, write_quiet,
+    write_scripts, write_upcoming,
 };
 use std::alloc::{AllocError, Global};
 use std::sync::Wait;
@@ -57,6 +59,11 @@ pub enum Goal {
         /// Whether the delays of jobs count.
         delays: bool,
     },
+    /// The scripts that jobs start by run-parts, by the next starts of the jobs.
+    Scripts {
+        /// The starts are later than this, in seconds since 1970-01-01T00:00:00Z.
+        after: u64,
+    },
     /// The gaps in which no job starts.
     Quiet {
         /// How the plan is made that is searched for gaps.
@@ -86,6 +93,8 @@ pub(crate) enum Made {
     First(Option<Start>, LineEnds, bool),
     // The next starts of jobs, with the ends of their lines, and whether the lines have the latest starts.
     Upcoming(Upcoming, LineEnds, bool),
+    // The next starts of jobs, with the scripts of these jobs.
+    Scripts(Upcoming, JobScripts),
     // An agenda of these jobs that is searched for gaps of at least so many seconds.
     Quiet(Agenda, Jobs, u32),
     // The differences between an earlier agenda and another one, with what the lines of its jobs show.
@@ -100,6 +109,7 @@ impl Goal {
         let start = match self {
             Goal::Plan { planning, .. } => planning.span.since(),
             Goal::Upcoming { after, .. } => *after,
+            Goal::Scripts { after } => *after,
             Goal::Quiet { planning, .. } => planning.span.since(),
             Goal::Changes { planning, .. } => planning.span.since(),
         };
@@ -115,7 +125,7 @@ impl Goal {
             Goal::Plan {
                 view: PlanView::Week | PlanView::First,
                 ..
-            }
+            } | Goal::Scripts { .. }
         )
     }
 
@@ -137,7 +147,7 @@ pub fn origin_at(start: u64, now: u64) -> Option<u64>
     if start == now { Some(now) } else { None }
 }
 
-// Makes what `goal` requests of jobs, in a format. If the files of the jobs are given, it is in JSON, and has them.
+// Makes what `goal` requests of jobs, in a format. If the files of the jobs are given, JSON and the scripts of jobs have them.
 pub(crate) fn make<R: Threads + Wait + Sync>(
     rt: &R,
     alloc: Global,
@@ -161,6 +171,7 @@ pub(crate) fn make<R: Threads + Wait + Sync>(
         Goal::Upcoming { after, delays } => {
             make_upcoming(alloc, jobs, *after, *delays, format, files)
         }
+        Goal::Scripts { after } => make_scripts(alloc, jobs, *after, files),
         Goal::Quiet { planning, least } => make_quiet(rt, alloc, jobs, planning, *least, format),
         Goal::Changes { planning, before } => {
             make_changes(rt, alloc, jobs, planning, before, format)
@@ -315,7 +326,38 @@ fn make_upcoming(
     Ok(Made::Upcoming(upcoming, ends, delays))
 }
 
-// Makes the ends of the lines of jobs, or those of their objects if their files are given.
+// Makes the next starts of jobs, with the scripts of these jobs, which are known if the files of the jobs are given.
+fn make_scripts(
+    alloc: Global,
+    jobs: Jobs,
+    after: u64,
+    files: Option<&[JobFile]>,
+) -> Result<Made, RunFault>
+    ensures made { (format : Format) → Makes (AnswersWithFiles (option_map (λ files. files.now) files.entry) format (Scripts after) (Ok jobs))
+        (text_of format) result }
+    ensures written { IfOk result CanBeWritten }
+    ensures finds { IfOk result (λ made. finds made ≡ false) }
+{
+    let nexts = Upcoming::new(alloc, &jobs, after)?;
+    let scripts = scripts_of(alloc, &jobs, files)?;
+    Ok(Made::Scripts(nexts, scripts))
+}
+
+// Collects the scripts of jobs, if the files of the jobs are given.
+fn scripts_of(
+    alloc: Global,
+    jobs: &Jobs,
+    files: Option<&[JobFile]>,
+) -> Result<JobScripts, AllocError>
+    ensures { IfOk result (λ scripts. scripts ≡ given_scripts (option_map (λ files. files.now) files.entry) jobs.now) }
+{
+    match files {
+        Some(files) => JobScripts::new(alloc, jobs, files),
+        None => JobScripts::new(alloc, jobs, &[]),
+    }
+}
+
+// Makes the ends of the lines of jobs, in JSON with their files, if these are given.
 fn ends_of(
     alloc: Global,
     jobs: &Jobs,
@@ -326,8 +368,8 @@ fn ends_of(
     ensures count { IfOk result (λ ends. length ends ≡ length jobs.now) }
 {
     match files {
-        Some(files) => LineEnds::with_files(alloc, jobs, files),
-        None => LineEnds::new(alloc, jobs, format.json),
+        Some(files) if format.json => LineEnds::with_files(alloc, jobs, files),
+        _ => LineEnds::new(alloc, jobs, format.json),
     }
 }
 
@@ -397,6 +439,9 @@ impl Made {
             Made::First(first, ends, delays) => write_entry(*first, ends, format, *delays, out),
             Made::Upcoming(upcoming, ends, delays) => {
                 write_upcoming(upcoming, ends, format, *delays, out)
+            }
+            Made::Scripts(upcoming, scripts) => {
+                write_scripts(upcoming, scripts, &format.local, out)
             }
             Made::Quiet(agenda, jobs, least) => {
                 write_quiet(agenda, jobs, u64::from(*least), format, out)

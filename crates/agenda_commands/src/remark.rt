@@ -23,8 +23,9 @@ use std::thread::Threads;
 
 /// Prepares the answer that `goal` requests of these jobs in a form, with what is said about it: where gaps are
 /// requested and none is long enough, the length of the longest gap and the jobs that cover most of the span. If the
-/// files of the jobs are given, in the order of the jobs, the lines of the answer are in JSON and have them; a table and gaps
-/// have no files.
+/// files of the jobs are given, in the order of the jobs, they are shown: lines in JSON have them, tables of an agenda and of
+/// next starts have the names of the scripts in them, and the scripts of jobs are those of their files. Other lines in text,
+/// other tables, gaps and changes are the same without them.
 ///
 /// # Errors
 ///
@@ -72,6 +73,7 @@ fn make_remarked<R: Threads + Wait + Sync>(
         Goal::Plan { .. } => unremarked(make_in_form(rt, alloc, jobs, goal, form, files)),
         Goal::Changes { .. } => unremarked(make_in_form(rt, alloc, jobs, goal, form, files)),
         Goal::Upcoming { .. } => unremarked(make_in_form(rt, alloc, jobs, goal, form, files)),
+        Goal::Scripts { .. } => unremarked(make_in_form(rt, alloc, jobs, goal, form, files)),
     }
 }
 
@@ -91,7 +93,7 @@ fn make_in_form<R: Threads + Wait + Sync>(
     match form {
         Form::Lines(format) => make_lines(rt, alloc, jobs, goal, format, files),
         Form::Table(form) if goal.has_table() => {
-            let made = make_table(rt, alloc, jobs, goal, &form)?;
+            let made = make_table(rt, alloc, jobs, goal, &form, files)?;
             let finds_any = made.finds_any;
             Ok((PreparedAnswer::new(Prepared::Table(made, form)), finds_any))
         }

@@ -1,9 +1,9 @@
 //! What a request makes of jobs, or of a rule, as a table, before a byte of it is written.
 
-ghost use Rattle.std.specs.Prelude.{◌≡◌, ◌==◌, Err, IfErr, IfOk, IsTrue, Ok, OnOk, false, length, not, true};
+ghost use Rattle.std.specs.Prelude.{◌≡◌, ◌==◌, Err, IfErr, IfOk, IsTrue, None, Ok, OnOk, false, length, not, option_map, true};
 ghost use Rattle.agenda_table.specs.Dates.{AreInYears};
 ghost use Rattle.agenda_commands.specs.Goal.{Makes, checked_sizes, finds_any, has_table, sized_goal};
-ghost use Rattle.agenda_commands.specs.Table.{AnswersTable, IsChangesTable, IsDowntimeTable, IsNextsTable, IsPlanTable, IsQuietTable, IsViewTable, IsStartsTable, look_of, text_of_table};
+ghost use Rattle.agenda_commands.specs.Table.{AnswersTable, IsChangesTable, IsDowntimeTable, IsNextsTable, IsPlanTable, IsQuietTable, IsViewTable, IsStartsTable, look_of, text_of_table, texts_of};
 ghost use Rattle.agenda_commands.specs.declared.goal.Goal.TheVariants.{Changes, Plan, Quiet, Upcoming as Nexts};
 ghost use Rattle.plan_changes.specs.Changes.{AreChanges};
 ghost use Rattle.plan_changes.specs.Lines.{lines_of};
@@ -26,7 +26,7 @@ use plan_downtime::missed_starts;
 use plan_rules::{Jobs, NamedZone, Text};
 use plan_sets::END_SECOND;
 use plan_streams::{Stream, WriteFault};
-use plan_write::Upcoming;
+use plan_write::{JobFile, Upcoming};
 use std::alloc::{AllocError, Global};
 use std::sync::Wait;
 use std::thread::Threads;
@@ -70,27 +70,29 @@ pub(crate) struct MadeTable {
     pub(crate) finds_any: bool,
 }
 
-// Makes what `goal` requests of jobs, as a table. The answer must have one.
+// Makes what `goal` requests of jobs, as a table, with the scripts of the jobs if their files are given. The answer must have one.
 pub(crate) fn make_table<R: Threads + Wait + Sync>(
     rt: &R,
     alloc: Global,
     jobs: Jobs,
     goal: &Goal,
     form: &TableForm,
+    files: Option<&[JobFile]>,
 ) -> Result<MadeTable, RunFault>
     requires { has_table goal.now ≡ true }
-    ensures made { Makes (AnswersTable form.now goal.now (Ok jobs)) (text_of_table form.now) result }
+    ensures made { Makes (AnswersTable (option_map (λ files. files.now) files.entry) form.now goal.now (Ok jobs)) (text_of_table form.now) result }
     ensures finds { IfOk result (λ made. made.finds_any ≡ finds_any goal.now jobs) }
 
     // These errors are found before any memory is requested.
     ensures at_once { IfErr (sized_goal goal.now) (λ fault. result ≡ Err fault) }
 {
     match goal {
-        Goal::Plan { planning, view } => make_plan(rt, alloc, jobs, planning, *view, form),
+        Goal::Plan { planning, view } => make_plan(rt, alloc, jobs, planning, *view, form, files),
         Goal::Upcoming { after, delays } => {
-            let table = upcoming_table(alloc, &jobs, *after, *delays, form)?;
+            let table = upcoming_table(alloc, &jobs, *after, *delays, form, files)?;
             Ok(table)
         }
+        Goal::Scripts { .. } => unreachable!(),
         Goal::Quiet { planning, least } => make_quiet(rt, alloc, jobs, planning, *least, form),
         Goal::Changes { planning, before } => make_changes(rt, alloc, jobs, planning, before, form),
     }
@@ -104,14 +106,16 @@ fn make_plan<R: Threads + Wait + Sync>(
     planning: &Planning,
     view: PlanView,
     form: &TableForm,
+    files: Option<&[JobFile]>,
 ) -> Result<MadeTable, RunFault>
-    ensures made { Makes (AnswersTable form.now (Plan planning.now view) (Ok jobs)) (text_of_table form.now) result }
+    ensures made { Makes (AnswersTable (option_map (λ files. files.now) files.entry) form.now (Plan planning.now view) (Ok jobs))
+        (text_of_table form.now) result }
     ensures finds { IfOk result (λ made. made.finds_any ≡ false) }
     ensures at_once { IfErr (checked_sizes planning.now) (λ fault. result ≡ Err fault) }
 {
     let jobs = counted(jobs, planning.delays);
     let agenda = make_agenda(rt, alloc, &jobs, planning)?;
-    let table = view_table(alloc, view, agenda, &jobs, planning.delays, form)?;
+    let table = view_table(alloc, view, agenda, &jobs, planning.delays, form, files)?;
     Ok(table)
 }
 
@@ -123,14 +127,16 @@ fn view_table(
     jobs: &Jobs,
     delays: bool,
     form: &TableForm,
+    files: Option<&[JobFile]>,
 ) -> Result<MadeTable, AllocError>
-    ensures table { IfOk result (λ made. IsViewTable view form.now delays agenda jobs.now (text_of_table form.now made)) }
+    ensures table { IfOk result (λ made. IsViewTable view form.now (option_map (λ files. files.now) files.entry) delays agenda jobs.now
+        (text_of_table form.now made)) }
     ensures finds { IfOk result (λ made. made.finds_any ≡ false) }
 {
     match view {
         PlanView::Downtime => downtime_table(alloc, &agenda, jobs, form),
         PlanView::Starts | PlanView::Week | PlanView::First => {
-            plan_table(alloc, agenda, jobs, delays, form)
+            plan_table(alloc, agenda, jobs, delays, form, files)
         }
     }
 }
@@ -144,7 +150,7 @@ fn make_changes<R: Threads + Wait + Sync>(
     before: &Earlier,
     form: &TableForm,
 ) -> Result<MadeTable, RunFault>
-    ensures made { Makes (AnswersTable form.now (Changes planning.now before.now) (Ok jobs)) (text_of_table form.now) result }
+    ensures made { Makes (AnswersTable None form.now (Changes planning.now before.now) (Ok jobs)) (text_of_table form.now) result }
     ensures finds { IfOk result (λ made. made.finds_any ≡ finds_any (Changes planning.now before.now) jobs) }
     ensures at_once { IfErr (checked_sizes planning.now) (λ fault. result ≡ Err fault) }
 {
@@ -166,7 +172,7 @@ fn make_quiet<R: Threads + Wait + Sync>(
     least: u32,
     form: &TableForm,
 ) -> Result<MadeTable, RunFault>
-    ensures made { Makes (AnswersTable form.now (Quiet planning.now least) (Ok jobs)) (text_of_table form.now) result }
+    ensures made { Makes (AnswersTable None form.now (Quiet planning.now least) (Ok jobs)) (text_of_table form.now) result }
     ensures finds { IfOk result (λ made. made.finds_any ≡ false) }
     ensures at_once { IfErr (checked_sizes planning.now) (λ fault. result ≡ Err fault) }
 {
@@ -183,13 +189,15 @@ fn plan_table(
     jobs: &Jobs,
     delays: bool,
     form: &TableForm,
+    files: Option<&[JobFile]>,
 ) -> Result<MadeTable, AllocError>
-    ensures table { IfOk result (λ made. IsPlanTable form.now delays agenda jobs.now (text_of_table form.now made)) }
+    ensures table { IfOk result (λ made. IsPlanTable form.now (option_map (λ files. files.now) files.entry) delays agenda jobs.now
+        (text_of_table form.now made)) }
     ensures finds { IfOk result (λ made. made.finds_any ≡ false) }
 {
     let (clock, zone) = (&form.zone.clock, form.zone.name.as_str());
     let (since, upto) = (agenda.since(), agenda.upto());
-    let cells = JobCells::new(alloc, jobs)?;
+    let cells = cells_of(alloc, jobs, files)?;
     let dates = dates_of_jobs(
         alloc,
         clock,
@@ -206,6 +214,16 @@ fn plan_table(
         last: Text::new(last),
         finds_any: false,
     })
+}
+
+// Makes what the rows of jobs have of them, with the names of their scripts if their files are given.
+fn cells_of(alloc: Global, jobs: &Jobs, files: Option<&[JobFile]>) -> Result<JobCells, AllocError>
+    ensures { IfOk result (λ cells. cells ≡ texts_of (option_map (λ files. files.now) files.entry) jobs.now) }
+{
+    match files {
+        Some(files) => JobCells::with_files(alloc, jobs, files),
+        None => JobCells::new(alloc, jobs),
+    }
 }
 
 // Returns the table of what jobs miss while the machine is down for the span of their agenda.
@@ -267,13 +285,15 @@ fn upcoming_table(
     after: u64,
     delays: bool,
     form: &TableForm,
+    files: Option<&[JobFile]>,
 ) -> Result<MadeTable, AllocError>
-    ensures table { IfOk result (λ made. IsNextsTable form.now jobs.now after delays (text_of_table form.now made)) }
+    ensures table { IfOk result (λ made. IsNextsTable form.now (option_map (λ files. files.now) files.entry) jobs.now after delays
+        (text_of_table form.now made)) }
     ensures finds { IfOk result (λ made. made.finds_any ≡ false) }
 {
     let (clock, zone) = (&form.zone.clock, form.zone.name.as_str());
     let upcoming = Upcoming::new(alloc, jobs, after)?;
-    let cells = JobCells::new(alloc, jobs)?;
+    let cells = cells_of(alloc, jobs, files)?;
     let shown = after.min(END_SECOND);
     let dates = dates_of_jobs(alloc, clock, &[shown], upcoming.nexts(), &cells, delays)?;
     let look = Look::new(clock, &dates, form.origin);

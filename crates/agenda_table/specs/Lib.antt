@@ -4,6 +4,7 @@ pub mod Widths
 pub mod Times
 pub mod Lines
 pub mod Rows
+pub mod Scripts
 pub mod Last
 pub mod Dates
 pub mod Keys

@@ -1,6 +1,6 @@
 //! The table of starts of jobs: those of an agenda, or the next ones.
 
-ghost use Rattle.std.specs.Prelude.{◌≡◌, ◌≤◌, ◌∷◌, [], IfOk, IfSome, IsOk, IsTrue, OnOk, None, Some, chars, map, option_copied, option_map, slice_get};
+ghost use Rattle.std.specs.Prelude.{◌≡◌, ◌≤◌, ◌∷◌, ◌++◌, [], IfOk, IfSome, IsOk, IsTrue, OnOk, None, Some, chars, map, option_copied, option_map, slice_get};
 ghost use Rattle.plan_collect.specs.Windows.{latest_start};
 ghost use Rattle.plan_sets.specs.Limits.{end_second};
 ghost use Rattle.plan_streams.specs.Stream.{Puts};
@@ -8,21 +8,25 @@ ghost use Rattle.plan_write.specs.Texts.{run_text};
 ghost use Rattle.plan_write.specs.Upcoming.{start_or_none};
 ghost use Rattle.agenda_table.specs.Layout.{table_text};
 ghost use Rattle.agenda_table.specs.Rows.{JobTexts, job_cells, job_head, job_row, job_rows, job_texts, latest_or_word, rows_of_job, start_or_word, text_if, text_of};
+ghost use Rattle.agenda_table.specs.Scripts.{job_texts_with, scripts_note, texts_of_jobs};
 
 use crate::cell::{Cell, cell_if};
 use crate::line::Frame;
 use crate::look::Look;
+use crate::scripts::push_scripts;
 use crate::short::{Short, word};
 use crate::table::{RowSink, Rows, write_table};
 use plan_collect::Start;
 use plan_rules::{Job, Jobs, Text};
 use plan_sets::END_SECOND;
 use plan_streams::{Stream, WriteFault};
+use plan_write::JobFile;
 use std::alloc::{AllocError, Global};
 use std::marker::Model;
 
 /// For each job, by its number, what the rows of a table have of it: its name, what it runs, and its delay. What a job
-/// runs is its user, if it has one, a space, and its command.
+/// runs is its user, if it has one, a space, and its command. The names of the scripts that it starts by run-parts may
+/// follow.
 #[derive(Drop)]
 pub struct JobCells {
     jobs: Vec<JobCell>,
@@ -68,6 +72,29 @@ impl JobCell {
             delay: job.delay(),
         })
     }
+
+    // Makes the same, with the scripts of the job's file, if that is given.
+    fn with_file(alloc: Global, job: &Job, file: Option<&JobFile>) -> Result<JobCell, AllocError>
+        ensures { IfOk result (λ cell. cell ≡ job_texts_with (option_copied file.entry) job.now) }
+    {
+        let name = String::from_str(alloc, job.name())?;
+        let runs = runs_with(alloc, job, file)?;
+        Ok(JobCell {
+            name: Text::new(name),
+            runs,
+            delay: job.delay(),
+        })
+    }
+}
+
+// Returns what a job runs, and the names of the scripts of its file, if that is given.
+fn runs_with(alloc: Global, job: &Job, file: Option<&JobFile>) -> Result<Text, AllocError>
+    ensures { IfOk result (λ text. text ≡ run_text job.now.user job.now.command ++ scripts_note (option_copied file.entry)) }
+{
+    let runs = runs_of(alloc, job)?;
+    let mut text = String::from_str(alloc, runs.as_str())?;
+    push_scripts(&mut text, file)?;
+    Ok(Text::new(text))
 }
 
 /// Returns what a job runs: its user, if it has one, a space, and its command.
@@ -102,6 +129,27 @@ impl JobCells {
         for number in 0..jobs.len() {
             if let Some(job) = jobs.get(number) {
                 cells.push(JobCell::new(alloc, job)?)?;
+            }
+        }
+        Ok(JobCells { jobs: cells })
+    }
+
+    /// Makes what the rows of a table have of jobs, each with the names of the scripts of its file: that at the job's
+    /// place. A job without such a file has no scripts.
+    ///
+    /// # Errors
+    ///
+    /// `AllocError` if an allocation fails.
+    pub fn with_files(alloc: Global, jobs: &Jobs, files: &[JobFile]) -> Result<JobCells, AllocError>
+        ensures cells { IfOk result (λ cells. cells ≡ texts_of_jobs files.now jobs.now) }
+
+        // Without jobs it requests no memory.
+        ensures spared { jobs.now ≡ [] → IsOk result }
+    {
+        let mut cells = Vec::with_capacity(alloc, jobs.len())?;
+        for number in 0..jobs.len() {
+            if let Some(job) = jobs.get(number) {
+                cells.push(JobCell::with_file(alloc, job, files.get(number))?)?;
             }
         }
         Ok(JobCells { jobs: cells })

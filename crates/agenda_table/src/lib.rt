@@ -1,10 +1,10 @@
 //! The table that `agenda machine` prints of an answer: lines of cells, with blanks between them.
 //!
 //! `table` reads the rows of an answer twice: for the widths of the columns, and for the lines. `jobs` has the rows of an
-//! agenda and those of next starts of jobs, `gaps` those of gaps, and `starts` those of the next starts of a rule. `last`
-//! makes the last line. `line` makes a line of a row, and `room` cuts it. `time` and `short` have the texts of cells: times,
-//! with what a clock shows then (`face`), and lengths. `look` says how the times of a table are shown, and `dates` on which
-//! dates they have their offset. Read `table` first, then `jobs`.
+//! agenda and those of next starts of jobs, and `scripts` the names of scripts in them. `gaps` has the rows of gaps, and
+//! `starts` those of the next starts of a rule. `last` makes the last line. `line` makes a line of a row, and `room` cuts it.
+//! `time` and `short` have the texts of cells: times, with what a clock shows then (`face`), and lengths. `look` says how the
+//! times of a table are shown, and `dates` on which dates they have their offset. Read `table` first, then `jobs`.
 #![tactic(auto)]
 
 mod cell;
@@ -16,6 +16,7 @@ mod last;
 mod line;
 mod look;
 mod room;
+mod scripts;
 mod short;
 mod starts;
 mod table;

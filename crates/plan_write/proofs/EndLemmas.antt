@@ -1,4 +1,4 @@
--- The ends of the lines of jobs, one after the other: for the loops of `LineEnds::new` and `LineEnds::with_files`.
+-- What is made of jobs, one after the other: for the loops of `LineEnds::new`, `LineEnds::with_files`, and others with files.
 use Rattle.std.proofs.Common.{◌≡◌, ℕ, ◌+◌, Bool, List, [], ◌∷◌, ◌++◌, length, map, take, Option, None, Some, get_or, nat_lt, add-zero, ap, refl, sym, ◌∙◌, arith}
 use Rattle.std.specs.List.{enumerate_from}
 use Rattle.std.specs.Borrow.{Bor}
@@ -9,7 +9,7 @@ use Rattle.std.proofs.lemmas.Grind.{common_steps}
 use Rattle.std.proofs.lemmas.List.{length-take-le, take_more, map-append}
 use Rattle.std.proofs.lemmas.Option.{slice_get_past, slice_get_read, slice_get_within, get_or_from_slice_get}
 use Rattle.plan_rules.specs.Job.{JobParts}
-use Rattle.plan_write.specs.Texts.{EndParts, line_end, object_end, object_ends}
+use Rattle.plan_write.specs.Texts.{EndParts, by_files, line_end}
 use Rattle.plan_write.specs.declared.line_ends.JobFile.{JobFile}
 
 -- the jobs so far and one more
@@ -42,15 +42,15 @@ file_there files n (Some one) some own =
     sym (slice_get_read files (length files) n one.now refl (ltb-true n (length files) (sym some)) own)
 
 -- one more job with its file
-pub objects_more :
-    (files : List JobFile) (jobs : List JobParts) (n : ℕ) (job : JobParts) (file : Option JobFile) (ends : List EndParts)
-    (end : EndParts) → ends ≡ object_ends files (take n jobs) → Some job ≡ slice_get jobs n → file ≡ slice_get files n →
-    end ≡ object_end file job → ends ++ end ∷ [] ≡ object_ends files (take (n + 1) jobs)
-objects_more files jobs n job file ends end so_far is there own =
+pub filed_more :
+    {X : Type 0} (one : Option JobFile → JobParts → X) (files : List JobFile) (jobs : List JobParts) (n : ℕ) (job : JobParts)
+    (file : Option JobFile) (made : List X) (next : X) → made ≡ by_files one files (take n jobs) → Some job ≡ slice_get jobs n →
+    file ≡ slice_get files n → next ≡ one file job → made ++ next ∷ [] ≡ by_files one files (take (n + 1) jobs)
+filed_more one files jobs n job file made next so_far is there own =
     let inside = slice_get_within jobs n job (sym is) in
     let count : 0 + length (take n jobs) ≡ n = omega (arith, length-take-le n jobs (omega (arith, inside))) in
-    let f = λ (pair : ℕ × JobParts). object_end (slice_get files pair.0) pair.1 in
+    let f = λ (pair : ℕ × JobParts). one (slice_get files pair.0) pair.1 in
     let places = ap (enumerate_from 0) (job_more jobs n job is) ∙ places_more 0 (take n jobs) job in
-    (λ i. so_far i ++ (own ∙ ap (λ one. object_end one job) there ∙ ap (λ k. object_end (slice_get files k) job) (sym count)) i ∷ [])
+    (λ i. so_far i ++ (own ∙ ap (λ held. one held job) there ∙ ap (λ k. one (slice_get files k) job) (sym count)) i ∷ [])
     ∙ sym (map-append f (enumerate_from 0 (take n jobs)) ((0 + length (take n jobs), job) ∷ []))
     ∙ sym (ap (map f) places)

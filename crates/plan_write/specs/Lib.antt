@@ -5,9 +5,11 @@ pub mod TimeFields
 pub mod Json
 pub mod Escapes
 pub mod Shown
+pub mod JobFile
 pub mod Texts
 pub mod Stamp
 pub mod Upcoming
+pub mod Scripts
 pub mod Quiet
 pub mod Next
 pub mod Replies

@@ -1,5 +1,5 @@
 -- The text of an agenda, by its format.
-use Rattle.std.specs.Prelude.{ℕ, Bool, true, false, if◌then◌else◌, List, [], ◌++◌, codes, decimal, length, map, Option, Some, None, option_map, slice_get, refl}
+use Rattle.std.specs.Prelude.{ℕ, Bool, true, false, if◌then◌else◌, List, [], ◌∷◌, ◌++◌, codes, decimal, length, map, Option, Some, None, option_map, slice_get, refl}
 use Rattle.std.specs.Coded.{Coded, code_by, coded×, coded_list, coded_ℕ}
 use Rattle.std.specs.List.{enumerate_from, flat_map}
 use Rattle.plan_rules.specs.Job.{JobParts}
@@ -38,12 +38,28 @@ abbrev pub file_members : Option JobFile → List ℕ
 file_members None = []
 file_members (Some file) = codes ",\"path\":" ++ (json_string file.path ++ (codes ",\"line\":" ++ line_value file.line))
 
--- the end of each object of a job: its name, its file, if that is given, its user, if it has one, and its command (agenda)
+-- a further string of an array
+abbrev pub more_string : List ℕ → List ℕ
+more_string text = codes "," ++ json_string text
+
+-- the member of these scripts, if there are any (agenda)
+abbrev pub paths_member : (scripts : List (List ℕ)) → List ℕ
+paths_member [] = []
+paths_member (first ∷ more) = (codes ",\"scripts\":[" ++ json_string first) ++ (flat_map more_string more ++ codes "]")
+
+-- the member of a job's scripts, if it is known to have some (agenda)
+abbrev pub scripts_member : Option JobFile → List ℕ
+scripts_member None = []
+scripts_member (Some file) = paths_member file.scripts
+
+-- the end of each object of a job: its name, its file, if that is given, its user, if it has one, its command, and its scripts, if it
+-- has some (agenda)
 abbrev pub end_members_of : Option JobFile → JobParts → List ℕ
 end_members_of file job =
     codes ",\"job\":"
     ++ (json_string job.name
-    ++ (file_members file ++ (user_member job.user ++ (codes ",\"run\":" ++ (json_string job.command ++ codes "}\n")))))
+    ++ (file_members file ++ (user_member job.user
+    ++ (codes ",\"run\":" ++ (json_string job.command ++ (scripts_member file ++ codes "}\n"))))))
 
 -- the same without a file
 abbrev pub end_members : JobParts → List ℕ
@@ -73,9 +89,13 @@ line_end json job = record { text = end_in json job; delay = job.delay }
 abbrev pub object_end : Option JobFile → JobParts → EndParts
 object_end file job = record { text = end_members_of file job; delay = job.delay }
 
--- what the objects of jobs need, each with the file at the place of its job, if there is one
+-- what is made of each job and of the file at the job's place, if there is one
+abbrev pub by_files : {X : Type 0} → (Option JobFile → JobParts → X) → List JobFile → List JobParts → List X
+by_files made files jobs = map (λ job. made (slice_get files job.0) job.1) (enumerate_from 0 jobs)
+
+-- what the objects of jobs need
 abbrev pub object_ends : List JobFile → List JobParts → List EndParts
-object_ends files jobs = map (λ job. object_end (slice_get files job.0) job.1) (enumerate_from 0 jobs)
+object_ends files jobs = by_files object_end files jobs
 
 -- ---- lines
 

@@ -1,5 +1,5 @@
-//! The texts of the answers: of agendas, their gaps, the next starts of jobs and of one rule, and the replies of a
-//! mailbox. Those of findings are in agenda_findings, and those of codes in agenda_codes.
+//! The texts of the answers: of agendas, their gaps, the next starts of jobs, of their scripts and of one rule, and the
+//! replies of a mailbox. Those of findings are in agenda_findings, and those of codes in agenda_codes.
 //!
 //! Most of them are text or JSON, and show times in UTC or by the clock of a zone: see `formats`. Agendas and next
 //! starts can show the latest starts too, for jobs that have delays.
@@ -18,6 +18,7 @@ mod local_times;
 mod next;
 mod quiet;
 mod replies;
+mod scripts;
 mod shown;
 mod stamp;
 mod time_fields;
@@ -32,6 +33,7 @@ pub use next::write_next;
 pub use plan_collect::Upcoming;
 pub use quiet::{nominal_gaps_are_of_marks, nothing_starts_in_gaps, write_quiet};
 pub use replies::write_replies;
+pub use scripts::{JobScripts, write_scripts};
 pub use shown::{push_shown, put_shown};
 pub use time_fields::{LineStamps, Stamps, TimeField, put_field, put_time};
 pub use upcoming::write_upcoming;

@@ -1,8 +1,9 @@
 //! The ends of the lines of jobs, made once for each job.
 
-ghost use Rattle.std.specs.Prelude.{◌≡◌, [], ◌++◌, IfOk, IsOk, OnOk, map, option_copied, slice_get};
+ghost use Rattle.std.specs.Prelude.{◌≡◌, [], ◌∷◌, ◌++◌, IfOk, IsOk, OnOk, map, option_copied, slice_get};
 ghost use Rattle.plan_write.specs.Json.{json_string};
-ghost use Rattle.plan_write.specs.Texts.{end_in, end_members_of, end_text, file_members, line_end, line_value, object_end, object_ends, user_member};
+ghost use Rattle.std.specs.List.{flat_map};
+ghost use Rattle.plan_write.specs.Texts.{end_in, end_members_of, end_text, file_members, line_end, line_value, more_string, object_end, object_ends, paths_member, scripts_member, user_member};
 
 use crate::json_strings::push_string;
 use plan_rules::{Job, Jobs, Text};
@@ -16,12 +17,22 @@ pub struct JobFile {
     pub path: Text,
     /// The number of the job's line in it, in decimal; `None` if the job comes from no single line, as that of a timer.
     pub line: Option<Text>,
+    /// The paths of the scripts that the job runs by run-parts, in order.
+    pub scripts: Vec<Text>,
+}
+
+impl Model for JobFile {
+    ghost use Rattle.plan_write.specs.JobFile.{JobFileParts};
+
+    ghost Value = { JobFileParts };
+
+    ghost view = { λ file. record { path = file.path; line = file.line; scripts = file.scripts.items } };
 }
 
 /// For each job of a plan, by its number, the end of the lines that an answer has for it: what comes after the
 /// times. In text this is the job's name, a tab, what it runs, and a newline. What a job runs is its user, if it has
 /// one, a space, and its command. In JSON it is the members of the job's name, of its file, if that is given, of its
-/// user, if it has one, and of its command. The job's delay is kept too.
+/// user, if it has one, of its command, and of its scripts, if it has some. The job's delay is kept too.
 #[derive(Drop)]
 pub struct LineEnds {
     ends: Vec<LineEnd>,
@@ -185,7 +196,48 @@ fn push_members(text: &mut Vec<u8>, job: &Job, file: Option<&JobFile>) -> Result
     push_file(text, file)?;
     push_user(text, job)?;
     push_member(text, b",\"run\":", job.command())?;
+    push_scripts(text, file)?;
     text.extend_from_slice(b"}\n")
+}
+
+// Appends the member of a job's scripts, if it is known to have some.
+fn push_scripts(text: &mut Vec<u8>, file: Option<&JobFile>) -> Result<(), AllocError>
+    ensures { OnOk result (text.new.items ≡ text.old.items ++ scripts_member (option_copied file.entry)) }
+{
+    match file {
+        None => Ok(()),
+        Some(file) => push_paths(text, file.scripts.as_slice()),
+    }
+}
+
+// Appends the member of these scripts, if there are any.
+fn push_paths(text: &mut Vec<u8>, scripts: &[Text]) -> Result<(), AllocError>
+    ensures { OnOk result (text.new.items ≡ text.old.items ++ paths_member scripts.now) }
+{
+    match scripts.split_first() {
+        None => Ok(()),
+        Some((first, more)) => push_array(text, first, more),
+    }
+}
+
+// Appends the member of these scripts.
+fn push_array(text: &mut Vec<u8>, first: &Text, more: &[Text]) -> Result<(), AllocError>
+    ensures { OnOk result (text.new.items ≡ text.old.items ++ paths_member (first.now ∷ more.now)) }
+{
+    push_member(text, b",\"scripts\":[", first.as_str())?;
+    push_more(text, more)?;
+    text.push(b']')?;
+    Ok(())
+}
+
+// Appends more strings of an array.
+fn push_more(text: &mut Vec<u8>, strings: &[Text]) -> Result<(), AllocError>
+    ensures { OnOk result (text.new.items ≡ text.old.items ++ flat_map more_string strings.now) }
+{
+    for string in strings {
+        push_member(text, b",", string.as_str())?;
+    }
+    Ok(())
 }
 
 // Appends the members of the file that a job comes from, if it is given.

@@ -12,11 +12,11 @@ returns-clause-table c =
     let agenda = c.args.agenda in
     let delays = c.args.delays in
     let dates : List ℕ = c.in_ok-dates.dates.items in
-    let cells = c.in_ok-cells.ensures.cells in
+    let cells = c.in_ok-cells.ensures in
     let since = c.since-since.ensures.value in
     let upto = c.upto-upto.ensures.value in
     let look : c.new-look.result ≡ look_of form dates = c.new-look.ensures ∙ ap (look_of form) c.deref.ensures.value in
-    let last = c.new-2.ensures ∙ c.in_ok-last.ensures
+    let last = c.new.ensures ∙ c.in_ok-last.ensures
     ∙ (λ k. span_text (look k) (c.len.ensures k) (codes "start") (since k) (upto k) (c.as_str-zone.ensures k)) in (
       dates,
       λ date.

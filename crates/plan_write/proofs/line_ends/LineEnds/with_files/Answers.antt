@@ -2,7 +2,8 @@ use Rattle.std.proofs.Common.{ap, arith, ◌∙◌}
 use Rattle.std.proofs.lemmas.Bool.Decides.{nat_tests}
 use Rattle.std.specs.Prelude.{option_copied}
 use Rattle.plan_collect.specs.AgendaLaws.{job_there}
-use Rattle.plan_write.proofs.EndLemmas.{file_there, objects_more}
+use Rattle.plan_write.specs.Texts.{object_end}
+use Rattle.plan_write.proofs.EndLemmas.{file_there, filed_more}
 use Rattle.plan_write.proofs.line_ends.LineEnds.with_files.Goals as goal
 use Rattle.plan_write.proofs.line_ends.LineEnds.with_files.Goals.{in-Some+in_ok-with_file+in_ok-push, in_default}
 
@@ -13,7 +14,7 @@ loop-number-preserved c =
           let found = w.get-in-Some.ensures.lookup in
           let there = file_there c.args.files.now c.loop-number.number w.get-in-Some.result found.0 found.1 in
           ap (λ ends. ends.items) w.ends-is ∙ w.in_ok-push.ensures.items
-          ∙ objects_more c.args.files.now c.args.jobs.now c.loop-number.number w.in-Some.job.now (option_copied w.get-in-Some.result)
+          ∙ filed_more object_end c.args.files.now c.args.jobs.now c.loop-number.number w.in-Some.job.now (option_copied w.get-in-Some.result)
           c.loop-number.ends.items w.in_ok-with_file.field-0 c.loop-number.invariant w.in-Some.ensures there
           w.in_ok-with_file.ensures
       | in_default w ↦ grind (arith, nat_tests, job_there)
