@@ -129,34 +129,38 @@ _agenda() {
             [[ ${COMPREPLY-} == *= ]] && compopt -o nospace
             ;;
         machine:-* | machine\ upcoming:*)
-            mapfile -t COMPREPLY < <(compgen -W "--after= --except= --delays --strict $form $machine" -- "$cur")
+            mapfile -t COMPREPLY < <(compgen -W "--after= --except= --idle --delays --strict $form $machine" -- "$cur")
             [[ ${COMPREPLY-} == *= ]] && compopt -o nospace
             ;;
         machine:*)
-            mapfile -t COMPREPLY < <(compgen -W 'upcoming plan quiet downtime clear changes week check sources next describe' -- "$cur")
+            mapfile -t COMPREPLY < <(compgen -W 'upcoming plan quiet downtime clear changes week scripts check sources next describe' -- "$cur")
             ;;
         machine\ plan:*)
-            mapfile -t COMPREPLY < <(compgen -W "$span --except= --delays --strict $form $machine" -- "$cur")
+            mapfile -t COMPREPLY < <(compgen -W "$span --except= --idle --delays --strict $form $machine" -- "$cur")
             [[ ${COMPREPLY-} == *= ]] && compopt -o nospace
             ;;
         machine\ quiet:*)
-            mapfile -t COMPREPLY < <(compgen -W "$span --least= --except= --nominal --strict $form $machine" -- "$cur")
+            mapfile -t COMPREPLY < <(compgen -W "$span --least= --except= --idle --nominal --strict $form $machine" -- "$cur")
             [[ ${COMPREPLY-} == *= ]] && compopt -o nospace
             ;;
         machine\ downtime:*)
-            mapfile -t COMPREPLY < <(compgen -W "$span --except= --strict $form $machine" -- "$cur")
+            mapfile -t COMPREPLY < <(compgen -W "$span --except= --idle --strict $form $machine" -- "$cur")
             [[ ${COMPREPLY-} == *= ]] && compopt -o nospace
             ;;
         machine\ clear:*)
-            mapfile -t COMPREPLY < <(compgen -W "$search --except= --nominal --strict ${machine/--json /}" -- "$cur")
+            mapfile -t COMPREPLY < <(compgen -W "$search --except= --idle --nominal --strict ${machine/--json /}" -- "$cur")
             [[ ${COMPREPLY-} == *= ]] && compopt -o nospace
             ;;
         machine\ changes:-*)
-            mapfile -t COMPREPLY < <(compgen -W "$sizes --except= --strict $form $machine" -- "$cur")
+            mapfile -t COMPREPLY < <(compgen -W "$sizes --except= --idle --strict $form $machine" -- "$cur")
             [[ ${COMPREPLY-} == *= ]] && compopt -o nospace
             ;;
         machine\ week:*)
-            mapfile -t COMPREPLY < <(compgen -W "$span --except= --strict $machine" -- "$cur")
+            mapfile -t COMPREPLY < <(compgen -W "$span --except= --idle --strict $machine" -- "$cur")
+            [[ ${COMPREPLY-} == *= ]] && compopt -o nospace
+            ;;
+        machine\ scripts:*)
+            mapfile -t COMPREPLY < <(compgen -W "--after= --except= --idle --strict ${machine/--json /}" -- "$cur")
             [[ ${COMPREPLY-} == *= ]] && compopt -o nospace
             ;;
         machine\ sources:*)
@@ -172,7 +176,7 @@ _agenda() {
             [[ ${COMPREPLY-} == *= ]] && compopt -o nospace
             ;;
         machine\ describe:*)
-            mapfile -t COMPREPLY < <(compgen -W "--except= --strict $form $machine" -- "$cur")
+            mapfile -t COMPREPLY < <(compgen -W "--except= --idle --strict $form $machine" -- "$cur")
             [[ ${COMPREPLY-} == *= ]] && compopt -o nospace
             ;;
         plan:* | upcoming:* | quiet:* | downtime:* | clear:* | week:* | check:* | describe:*)

@@ -30,7 +30,7 @@ complete -c agenda -n $none -a explain -d 'Explain the code of an error or a war
 complete -c agenda -s h -l help -d 'Print help'
 complete -c agenda -n $none -s V -l version -d 'Print the version'
 
-set -l after '__fish_seen_subcommand_from next upcoming'
+set -l after '__fish_seen_subcommand_from next upcoming; or begin; __fish_seen_subcommand_from machine; and __fish_seen_subcommand_from scripts; end'
 complete -c agenda -n $after -l after -x -d 'Only starts later than this time'
 
 # machine has a command check of its own
@@ -87,7 +87,7 @@ complete -c agenda -n $sources -l spool -r -F -d 'A user\'s crontab, named by th
 complete -c agenda -n $sources -k -a '(__fish_complete_suffix .timer)'
 complete -c agenda -n '__fish_seen_subcommand_from changes' -F
 
-set -l machine '__fish_seen_subcommand_from machine; and not __fish_seen_subcommand_from upcoming plan quiet downtime clear changes week check sources next describe'
+set -l machine '__fish_seen_subcommand_from machine; and not __fish_seen_subcommand_from upcoming plan quiet downtime clear changes week scripts check sources next describe'
 complete -c agenda -n $machine -a upcoming -d 'Print when each job of a machine starts next'
 complete -c agenda -n $machine -a plan -d 'Print every start of a machine\'s jobs in a span of time'
 complete -c agenda -n $machine -a quiet -d 'Print the gaps in which no job of a machine starts'
@@ -95,6 +95,7 @@ complete -c agenda -n $machine -a downtime -d 'Print what a machine misses while
 complete -c agenda -n $machine -a clear -d 'Succeed if no job of a machine starts in a span'
 complete -c agenda -n $machine -a changes -d 'Compare a machine\'s plan with one made before'
 complete -c agenda -n $machine -a week -d 'Show how many jobs of a machine start in each hour'
+complete -c agenda -n $machine -a scripts -d 'List the scripts that run-parts starts, with the next start of each'
 complete -c agenda -n $machine -a check -d 'Print errors and likely mistakes in a machine\'s crontabs and timers'
 complete -c agenda -n $machine -a sources -d 'List a machine\'s crontabs and timers'
 complete -c agenda -n $machine -a next -d 'Print the next starts of a rule by the machine\'s clock'
@@ -103,7 +104,7 @@ complete -c agenda -n $machine -a describe -d 'Say in words when each job of a m
 set -l question '__fish_seen_subcommand_from machine; and not __fish_seen_subcommand_from next'
 complete -c agenda -n $question -l root -x -d 'The root directory of the machine [/]' -a '(__fish_complete_directories)'
 complete -c agenda -n $question -l all -d 'Include timers that aren\'t enabled'
-complete -c agenda -n '__fish_seen_subcommand_from machine; and not __fish_seen_subcommand_from clear' -l json \
+complete -c agenda -n '__fish_seen_subcommand_from machine; and not __fish_seen_subcommand_from clear scripts' -l json \
     -d 'Print each line as a JSON object'
 complete -c agenda -n '__fish_seen_subcommand_from machine; and __fish_seen_subcommand_from next' -l count -x \
     -d 'How many starts, from 1 to 1000 [5]'
@@ -112,11 +113,11 @@ set -l zoned '__fish_seen_subcommand_from machine; and not __fish_seen_subcomman
 complete -c agenda -n $zoned -l zone -r -F -d 'The time zone of the rules, if not that of the machine' \
     -a '(__fish_agenda_zones)'
 complete -c agenda -n $zoned -l utc -d 'Read the rules in UTC'
-complete -c agenda -n '__fish_seen_subcommand_from machine; and not __fish_seen_subcommand_from check sources next' -l except -x \
-    -d 'Ignore the job with this name, as it is printed'
-complete -c agenda -n '__fish_seen_subcommand_from machine; and not __fish_seen_subcommand_from check sources next' -l strict \
-    -d 'Let an error in a file stop the answer'
-set -l formed '__fish_seen_subcommand_from machine; and not __fish_seen_subcommand_from check sources clear week'
+set -l planned '__fish_seen_subcommand_from machine; and not __fish_seen_subcommand_from check sources next'
+complete -c agenda -n $planned -l except -x -d 'Ignore the job with this name, as it is printed'
+complete -c agenda -n $planned -l idle -d 'Include idle jobs, whose commands do nothing'
+complete -c agenda -n $planned -l strict -d 'Let an error in a file stop the answer'
+set -l formed '__fish_seen_subcommand_from machine; and not __fish_seen_subcommand_from check sources clear week scripts'
 complete -c agenda -n $formed -l table -d 'Print a table, also if this isn\'t a terminal'
 complete -c agenda -n $formed -l text -d 'Print text, also on a terminal'
 complete -c agenda -n '__fish_seen_subcommand_from clear; or begin; __fish_seen_subcommand_from machine; and __fish_seen_subcommand_from quiet; end' -l nominal \

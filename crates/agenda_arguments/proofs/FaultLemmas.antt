@@ -27,7 +27,8 @@ use Rattle.agenda_arguments.specs.declared.ask.Ask.{Ask}
 use Rattle.agenda_arguments.specs.declared.ask.UsageFault.{UsageFault}
 use Rattle.agenda_arguments.specs.declared.ask.UsageFault.TheVariants.{NoMemory}
 use Rattle.agenda_options.specs.Command.{agenda, machine}
-use Rattle.agenda_arguments.specs.Arguments.{Follows, IsAnswerTo, ArgumentsFault, asked_unless, is_usage, fault_of_kind}
+use Rattle.agenda_arguments.specs.Arguments.{Follows, IsAnswerTo}
+use Rattle.agenda_arguments.specs.Values.{ArgumentsFault, asked_unless, fault_of_kind, is_usage}
 use Rattle.agenda_arguments.proofs.OnLiterals.{agenda_on_literals}
 
 -- all of these kinds are answered by the same fault

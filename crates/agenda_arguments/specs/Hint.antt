@@ -13,7 +13,8 @@ options_of question =
     else (if bytes_eq question (codes "clear") then Some (codes "--since or --until")
     else (if bytes_eq question (codes "week") then Some (codes "--since or --until")
     else (if bytes_eq question (codes "upcoming") then Some (codes "--after")
-    else (if bytes_eq question (codes "next") then Some (codes "--after") else None))))))
+    else (if bytes_eq question (codes "scripts") then Some (codes "--after")
+    else (if bytes_eq question (codes "next") then Some (codes "--after") else None)))))))
 
 -- the same for the arguments of `agenda machine`, of which the first is `machine` and the second a question (agenda)
 abbrev pub time_options : List (List ℕ) → Option (List ℕ)

@@ -1,11 +1,12 @@
 //! Reads the arguments of the command line.
 ghost use Rattle.std.specs.Prelude.{◌≡◌, Err, IfOk, codes, map, string_bytes};
 ghost use Rattle.clap.specs.Words.{first_of, found_of, kind_of, rows_of, subcommand_rows_of};
-ghost use Rattle.agenda_arguments.specs.Arguments.ArgumentsFault.{is_usage};
-ghost use Rattle.agenda_arguments.specs.Arguments.{Follows, Gives, IsAnswerTo, are_of_machine, asked_by, asked_by_agenda, asked_by_changes, asked_by_check, asked_by_clear};
-ghost use Rattle.agenda_arguments.specs.Arguments.{asked_by_describe, asked_by_downtime, asked_by_explain, asked_by_rule, asked_by_next, asked_by_plan, asked_by_quiet, asked_by_steps};
-ghost use Rattle.agenda_arguments.specs.Arguments.{asked_by_subcommand, asked_by_upcoming, asked_by_week, format_in, jobs_in, one_rule, plan_in};
-ghost use Rattle.agenda_arguments.specs.Arguments.{search_sizes_in, sizes_in, zones_in};
+ghost use Rattle.agenda_arguments.specs.Values.ArgumentsFault.{is_usage};
+ghost use Rattle.agenda_arguments.specs.Arguments.{Follows, Gives, IsAnswerTo, are_of_machine, asked_by, asked_by_agenda, asked_by_changes};
+ghost use Rattle.agenda_arguments.specs.Arguments.{asked_by_check, asked_by_clear, asked_by_describe, asked_by_downtime, asked_by_explain};
+ghost use Rattle.agenda_arguments.specs.Arguments.{asked_by_next, asked_by_plan, asked_by_quiet, asked_by_rule, asked_by_steps, asked_by_subcommand};
+ghost use Rattle.agenda_arguments.specs.Arguments.{asked_by_upcoming, asked_by_week, format_in, jobs_in, plan_in, zones_in};
+ghost use Rattle.agenda_arguments.specs.Values.{one_rule, search_sizes_in, sizes_in};
 
 use crate::ask::{
     Ask, ChangesRequest, FormatRequest, JobsRequest, NextRequest, PlanRequest, UsageFault,

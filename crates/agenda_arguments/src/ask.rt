@@ -119,6 +119,11 @@ pub enum MachineGoal {
         /// The text of the minimum length of a gap.
         least: Text,
     },
+    /// The scripts that the jobs start by run-parts, each with the next start of its job.
+    Scripts {
+        /// The text of a time. The starts are later.
+        after: Text,
+    },
     /// The differences from an earlier agenda.
     Changes {
         /// The path of the earlier agenda.
@@ -165,6 +170,8 @@ pub struct MachineJobs {
     pub delays: bool,
     /// Whether an error in a file stops the answer. If it doesn't, errors are skipped and reported.
     pub strict: bool,
+    /// Whether idle jobs, whose commands do nothing on the machine, are in the answer. If they aren't, they are reported.
+    pub idle: bool,
     /// How the answer is written, unless it is a table.
     pub format: FormatRequest,
     /// Whether it is a table.
@@ -191,6 +198,8 @@ pub struct MachineDescribe {
     pub except: JobNames,
     /// Whether an error in a file stops the answer. If it doesn't, errors are skipped and reported.
     pub strict: bool,
+    /// Whether idle jobs, whose commands do nothing on the machine, are in the answer. If they aren't, they are reported.
+    pub idle: bool,
     /// Whether each line is a JSON object, unless the answer is a table.
     pub json: bool,
     /// Whether it is a table.

@@ -2,7 +2,8 @@
 ghost use Rattle.std.specs.Prelude.{◌≡◌, IfOk, map};
 ghost use Rattle.agenda_policy.specs.Reading.{policy_reading};
 ghost use Rattle.clap.specs.Words.{found_of, rows_of};
-ghost use Rattle.agenda_arguments.specs.Arguments.{Follows, code_in, policy_in, policy_or_usage};
+ghost use Rattle.agenda_arguments.specs.Arguments.{Follows, code_in};
+ghost use Rattle.agenda_arguments.specs.Values.{policy_in, policy_or_usage};
 ghost use Rattle.agenda_arguments.specs.Codes.{unknown_code};
 
 use crate::ask::UsageFault;

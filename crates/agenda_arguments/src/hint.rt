@@ -45,6 +45,7 @@ fn options_of(question: &str) -> Option<&'static str>
         "clear" => Some(OF_SPAN),
         "week" => Some(OF_SPAN),
         "upcoming" => Some(OF_START),
+        "scripts" => Some(OF_START),
         "next" => Some(OF_START),
         _ => None,
     }

@@ -1,11 +1,13 @@
 //! What the arguments of `agenda machine` request.
 ghost use Rattle.std.specs.Prelude.{◌≡◌, ◌++◌, ◌∷◌, IfOk, OnOk, codes, drop, map, string_bytes};
 ghost use Rattle.clap.specs.Words.{first_of, found_of, rows_of, subcommand_rows_of};
-ghost use Rattle.agenda_arguments.specs.Arguments.{Follows, Gives, asked_about_machine, asked_by_machine, asked_by_machine_check, asked_by_machine_clear, asked_by_machine_describe, asked_by_machine_downtime};
-ghost use Rattle.agenda_arguments.specs.Arguments.{asked_by_machine_changes, asked_by_machine_next, asked_by_machine_plan, asked_by_machine_week};
-ghost use Rattle.agenda_arguments.specs.Arguments.{asked_by_machine_quiet, asked_by_machine_sources, asked_by_machine_upcoming};
-ghost use Rattle.agenda_arguments.specs.Arguments.{asked_by_question, asked_of_jobs, asked_of_machine, is_given, is_option};
-ghost use Rattle.agenda_arguments.specs.Arguments.{lacks_question, machine_format_in, machine_zone, span_in, table_for, table_in, with_question, zone_in};
+ghost use Rattle.agenda_arguments.specs.Arguments.{Follows, Gives};
+ghost use Rattle.agenda_arguments.specs.Machine.{asked_about_machine, asked_by_machine, asked_by_machine_changes, asked_by_machine_check};
+ghost use Rattle.agenda_arguments.specs.Machine.{asked_by_machine_clear, asked_by_machine_describe, asked_by_machine_downtime, asked_by_machine_next};
+ghost use Rattle.agenda_arguments.specs.Machine.{asked_by_machine_plan, asked_by_machine_quiet, asked_by_machine_scripts, asked_by_machine_sources, asked_by_machine_upcoming};
+ghost use Rattle.agenda_arguments.specs.Machine.{asked_by_machine_week, asked_by_question, asked_of_jobs, asked_of_machine, is_option, lacks_question};
+ghost use Rattle.agenda_arguments.specs.Machine.{machine_format_in, machine_zone, span_in, table_for, table_in, with_question};
+ghost use Rattle.agenda_arguments.specs.Values.{is_given, zone_in};
 
 use crate::arguments::{no_subcommand, search_sizes_of, sizes_of, usage_fault};
 use crate::ask::{
@@ -140,6 +142,7 @@ fn asked_by_question(alloc: Global, matches: &ArgMatches<'_>) -> Result<Ask, Usa
         "clear" => asked_by_machine_clear(alloc, given),
         "changes" => asked_by_machine_changes(alloc, given),
         "week" => asked_by_machine_week(alloc, given),
+        "scripts" => asked_by_machine_scripts(alloc, given),
         "check" => asked_by_machine_check(alloc, given),
         "sources" => asked_by_machine_sources(alloc, given),
         "next" => asked_by_machine_next(alloc, given),
@@ -248,6 +251,14 @@ fn asked_by_machine_week(alloc: Global, given: &ArgMatches<'_>) -> Result<Ask, U
     asked_of_jobs(alloc, given, false, MachineGoal::Plan { span, sizes, view })
 }
 
+// Delays don't count.
+fn asked_by_machine_scripts(alloc: Global, given: &ArgMatches<'_>) -> Result<Ask, UsageFault>
+    ensures { Follows result (asked_by_machine_scripts (rows_of (found_of given.now))) }
+{
+    let after = text_of(alloc, given, "after")?;
+    asked_of_jobs(alloc, given, false, MachineGoal::Scripts { after })
+}
+
 fn asked_by_machine_next(alloc: Global, given: &ArgMatches<'_>) -> Result<Ask, UsageFault>
     ensures { Follows result (asked_by_machine_next (rows_of (found_of given.now))) }
 {
@@ -283,6 +294,7 @@ fn asked_by_machine_describe(alloc: Global, given: &ArgMatches<'_>) -> Result<As
         zone,
         except: names_of(alloc, given, "except")?,
         strict: is_given(given, "strict"),
+        idle: is_given(given, "idle"),
         json,
         table,
     };
@@ -311,6 +323,7 @@ fn asked_of_jobs(
     let except = names_of(alloc, given, "except")?;
     let table = table_for(alloc, given, &goal)?;
     let strict = is_given(given, "strict");
+    let idle = is_given(given, "idle");
     let format = format_of(given);
     let jobs = MachineJobs {
         goal,
@@ -318,13 +331,14 @@ fn asked_of_jobs(
         except,
         delays,
         strict,
+        idle,
         format,
         table,
     };
     asked_of_machine(alloc, given, MachineQuestion::Jobs(jobs))
 }
 
-// Returns whether the answer for a goal is a table. The hours of a week and a first start have none.
+// Returns whether the answer for a goal is a table. The hours of a week, a first start and scripts have none.
 fn table_for(
     alloc: Global,
     given: &ArgMatches<'_>,
@@ -341,6 +355,7 @@ fn table_for(
             view: PlanView::First,
             ..
         } => Ok(TableRequest::Never),
+        MachineGoal::Scripts { .. } => Ok(TableRequest::Never),
         _ => table_of(alloc, given),
     }
 }

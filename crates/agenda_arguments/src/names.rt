@@ -1,7 +1,7 @@
 //! The names of jobs that the arguments give.
 ghost use Rattle.std.specs.Prelude.{◌≡◌, ◌++◌, ◌∷◌, [], IfErr, IfOk, if◌then◌else◌, is_ok};
 ghost use Rattle.clap.specs.Words.{found_of, rows_of};
-ghost use Rattle.agenda_arguments.specs.Arguments.{all_values};
+ghost use Rattle.agenda_arguments.specs.Values.{all_values};
 
 use crate::values::{text, values_of};
 use clap::ArgMatches;

@@ -1,7 +1,8 @@
 //! The values of a subcommand's options and arguments.
 ghost use Rattle.std.specs.Prelude.{◌≡◌, IfOk, map, option_map};
 ghost use Rattle.clap.specs.Words.{all_of, first_of, found_of, one_of, rows_of};
-ghost use Rattle.agenda_arguments.specs.Arguments.{Follows, is_given, number_in, wanted};
+ghost use Rattle.agenda_arguments.specs.Arguments.{Follows};
+ghost use Rattle.agenda_arguments.specs.Values.{is_given, number_in, wanted};
 
 use crate::ask::UsageFault;
 use clap::ArgMatches;

@@ -215,9 +215,9 @@ machine_sources = with_each (with_machine (new_app (codes "sources"))) (flag_opt
 abbrev pub machine_zone_rules : List Rule
 machine_zone_rules = option_named (codes "zone") ∷ flag_option (codes "utc") ∷ []
 
--- the jobs that an answer about a machine leaves out: `[--except JOB ..]` (agenda)
-abbrev pub except_option : Rule
-except_option = repeated_option (codes "except")
+-- which jobs an answer about a machine has, and the time zone of their rules: the zone, `[--except JOB ..] [--idle]` (agenda)
+abbrev pub choice_rules : List Rule
+choice_rules = machine_zone_rules ++ repeated_option (codes "except") ∷ flag_option (codes "idle") ∷ []
 
 -- the sizes of a plan of a machine: `[--limit N] [--planners N] [--room N]` (agenda)
 abbrev pub machine_size_rules : List Rule
@@ -234,10 +234,10 @@ unfoldable pub machine_check : App
 machine_check = with_each (with_machine (new_app (codes "check")))
     (machine_zone_rules ++ (policy_rules ++ flag_option (codes "json") ∷ []))
 
--- `machine upcoming` with the machine, `[--after TIME]`, the zone, `[--except JOB ..]`, `[--delays]`, `[--strict]` and the form (agenda)
+-- `machine upcoming` with the machine, `[--after TIME]`, the choice, `[--delays]`, `[--strict]` and the form (agenda)
 unfoldable pub machine_upcoming : App
 machine_upcoming = with_each (with_machine (new_app (codes "upcoming")))
-    (preset_option (codes "after") (codes "now") ∷ machine_zone_rules ++ except_option ∷ flag_option (codes "delays")
+    (preset_option (codes "after") (codes "now") ∷ choice_rules ++ flag_option (codes "delays")
     ∷ flag_option (codes "strict") ∷ machine_form_rules)
 
 -- a command with what names a machine and with the span of a plan added: `[--since TIME] [--until TIME]`, which are these times if
@@ -250,52 +250,57 @@ with_machine_times since until app = with_each (with_machine app)
 unfoldable pub with_machine_span : App → App
 with_machine_span app = with_machine_times (codes "now") (codes "+24h") app
 
--- `machine plan` with the machine, the span, the zone, `[--except JOB ..]`, `[--delays]`, `[--strict]`, the form and the sizes (agenda)
+-- `machine plan` with the machine, the span, the choice, `[--delays]`, `[--strict]`, the form and the sizes (agenda)
 unfoldable pub machine_plan : App
 machine_plan = with_each (with_machine_span (new_app (codes "plan")))
-    (machine_zone_rules ++ except_option ∷ flag_option (codes "delays") ∷ flag_option (codes "strict")
+    (choice_rules ++ flag_option (codes "delays") ∷ flag_option (codes "strict")
     ∷ machine_form_rules ++ machine_size_rules)
 
--- `machine quiet` with the machine, the span, `[--least LENGTH]`, the zone, `[--except JOB ..]`, `[--nominal]`, `[--strict]`, the form and
+-- `machine quiet` with the machine, the span, `[--least LENGTH]`, the choice, `[--nominal]`, `[--strict]`, the form and
 -- the sizes (agenda)
 unfoldable pub machine_quiet : App
 machine_quiet = with_each (with_machine_span (new_app (codes "quiet")))
-    (preset_option (codes "least") (codes "30min") ∷ machine_zone_rules ++ except_option ∷ flag_option (codes "nominal")
+    (preset_option (codes "least") (codes "30min") ∷ choice_rules ++ flag_option (codes "nominal")
     ∷ flag_option (codes "strict") ∷ machine_form_rules ++ machine_size_rules)
 
--- `machine downtime` with the machine, the span, the zone, `[--except JOB ..]`, `[--strict]`, the form and the sizes (agenda)
+-- `machine downtime` with the machine, the span, the choice, `[--strict]`, the form and the sizes (agenda)
 unfoldable pub machine_downtime : App
 machine_downtime = with_each (with_machine_span (new_app (codes "downtime")))
-    (machine_zone_rules ++ except_option ∷ flag_option (codes "strict") ∷ machine_form_rules ++ machine_size_rules)
+    (choice_rules ++ flag_option (codes "strict") ∷ machine_form_rules ++ machine_size_rules)
 
--- `machine clear` with the machine, the span, the zone, `[--except JOB ..]`, `[--nominal]`, `[--strict]`, and the sizes without a limit
+-- `machine clear` with the machine, the span, the choice, `[--nominal]`, `[--strict]`, and the sizes without a limit
 -- (agenda)
 unfoldable pub machine_clear : App
 machine_clear = with_each (with_machine_span (new_app (codes "clear")))
-    (machine_zone_rules ++ except_option ∷ flag_option (codes "nominal") ∷ flag_option (codes "strict") ∷ search_rules)
+    (choice_rules ++ flag_option (codes "nominal") ∷ flag_option (codes "strict") ∷ search_rules)
 
--- `machine week` with the machine, the span, which is a week from the start of today if it isn't given, the zone, `[--except JOB ..]`,
+-- `machine week` with the machine, the span, which is a week from the start of today if it isn't given, the choice,
 -- `[--strict]`, `[--json]` and the sizes (agenda)
 unfoldable pub machine_week : App
 machine_week = with_each (with_machine_times (codes "today") (codes "+7d") (new_app (codes "week")))
-    (machine_zone_rules ++ except_option ∷ flag_option (codes "strict") ∷ flag_option (codes "json") ∷ machine_size_rules)
+    (choice_rules ++ flag_option (codes "strict") ∷ flag_option (codes "json") ∷ machine_size_rules)
 
--- `machine changes BEFORE` with the machine, the zone, `[--except JOB ..]`, `[--strict]`, the form and the sizes (agenda)
+-- `machine changes BEFORE` with the machine, the choice, `[--strict]`, the form and the sizes (agenda)
 unfoldable pub machine_changes : App
 machine_changes = with_each (with_machine (new_app (codes "changes")))
-    (required_argument (codes "before") ∷ machine_zone_rules ++ except_option ∷ flag_option (codes "strict")
+    (required_argument (codes "before") ∷ choice_rules ++ flag_option (codes "strict")
     ∷ machine_form_rules ++ machine_size_rules)
+
+-- `machine scripts` with the machine, `[--after TIME]`, the choice and `[--strict]` (agenda)
+unfoldable pub machine_scripts : App
+machine_scripts = with_each (with_machine (new_app (codes "scripts")))
+    (preset_option (codes "after") (codes "now") ∷ choice_rules ++ flag_option (codes "strict") ∷ [])
 
 -- `machine next RULE` with `[--after TIME] [--count N]`, the zone and the form (agenda)
 unfoldable pub machine_next : App
 machine_next = subcommand_with (codes "next") (required_argument (codes "rule") ∷ preset_option (codes "after") (codes "now")
     ∷ number_option (codes "count") (codes "5") ∷ machine_zone_rules ++ machine_form_rules)
 
--- `machine describe [RULE]` with the machine, the zone, `[--except JOB ..]`, `[--strict]` and the form (agenda)
+-- `machine describe [RULE]` with the machine, the choice, `[--strict]` and the form (agenda)
 unfoldable pub machine_describe : App
 machine_describe = with_rule
     (with_each (with_machine (new_app (codes "describe")))
-    (machine_zone_rules ++ except_option ∷ flag_option (codes "strict") ∷ machine_form_rules))
+    (choice_rules ++ flag_option (codes "strict") ∷ machine_form_rules))
     (argument_named (codes "rule"))
 
 -- the command line of a subcommand (agenda)
@@ -320,6 +325,7 @@ app_for each.MachineDowntime = machine_downtime
 app_for each.MachineClear = machine_clear
 app_for each.MachineWeek = machine_week
 app_for each.MachineChanges = machine_changes
+app_for each.MachineScripts = machine_scripts
 app_for each.MachineCheck = machine_check
 app_for each.MachineSources = machine_sources
 app_for each.MachineNext = machine_next
@@ -334,7 +340,7 @@ subcommands =
 -- the questions about a machine, in the order in which help lists them (agenda)
 abbrev pub questions : List Subcommand
 questions = each.MachineUpcoming ∷ each.MachinePlan ∷ each.MachineQuiet ∷ each.MachineDowntime ∷ each.MachineClear ∷ each.MachineChanges
-    ∷ each.MachineWeek ∷ each.MachineCheck ∷ each.MachineSources ∷ each.MachineNext ∷ each.MachineDescribe ∷ []
+    ∷ each.MachineWeek ∷ each.MachineScripts ∷ each.MachineCheck ∷ each.MachineSources ∷ each.MachineNext ∷ each.MachineDescribe ∷ []
 
 -- a command with these subcommands added, one after the other (agenda)
 abbrev pub with_subcommands : App → List Subcommand → App

@@ -34,7 +34,8 @@ use Rattle.agenda_sources.specs.declared.Asked.{Asked}
 use Rattle.agenda_sources.specs.declared.Asked.TheVariants.{Cron, Event}
 use Rattle.plan_rules.specs.declared.SourceKind.TheVariants.{Crontab, System, CronD, Spool, Timer}
 use Rattle.agenda_sources.specs.declared.SourcePath.{SourcePath}
-use Rattle.agenda_arguments.specs.Arguments.{ArgumentsFault, asked_by, is_usage, path_of, wants_help}
+use Rattle.agenda_arguments.specs.Arguments.{asked_by, path_of}
+use Rattle.agenda_arguments.specs.Values.{ArgumentsFault, is_usage, wants_help}
 use Rattle.agenda_arguments.specs.Hint.{hinted}
 use Rattle.agenda_arguments.proofs.OnLiterals.{agenda_on_literals}
 use Rattle.plan_facts.specs.Rows.{RowsHold}
@@ -273,6 +274,7 @@ asks_jobs goal delays = record {
   except = [];
   delays = delays;
   strict = false;
+  idle = false;
   format = format_from false true;
   table = table_request.OnTerminal;
 }
@@ -292,36 +294,33 @@ from_now = span_from (codes "now") (codes "+24h")
 abbrev machine_sizes : Sizes
 machine_sizes = record { planners = 2; room = 16; limit = 1000000 }
 
+-- the next starts without options
+abbrev upcoming_now : MachineJobs
+upcoming_now = asks_jobs (machine_goal.Upcoming (codes "now")) false
+
 machine_jobs_rows : RowsHold asked_in
     -- the question is `upcoming` if there is none
-    ((codes "agenda machine", asks_here (asks_jobs (machine_goal.Upcoming (codes "now")) false))
+    ((codes "agenda machine", asks_here upcoming_now)
     ∷ (codes "agenda machine --delays --after t", asks_here (asks_jobs (machine_goal.Upcoming (codes "t")) true))
-    ∷ (codes "agenda machine upcoming", asks_here (asks_jobs (machine_goal.Upcoming (codes "now")) false))
+    ∷ (codes "agenda machine upcoming", asks_here upcoming_now)
     ∷ (
       codes "agenda machine upcoming --utc --json",
-      asks_here (record (asks_jobs (machine_goal.Upcoming (codes "now")) false) {
+      asks_here (record upcoming_now {
         zone = Some (codes "UTC");
         format = format_from true false;
         table = table_request.Never;
       }),
     )
+    ∷ (codes "agenda machine --table", asks_here (record upcoming_now { table = table_request.Always }))
+    ∷ (codes "agenda machine upcoming --text", asks_here (record upcoming_now { table = table_request.Never }))
+    ∷ (codes "agenda machine --strict", asks_here (record upcoming_now { strict = true }))
+    ∷ (codes "agenda machine --idle", asks_here (record upcoming_now { idle = true }))
     ∷ (
-      codes "agenda machine --table",
-      asks_here (record (asks_jobs (machine_goal.Upcoming (codes "now")) false) { table = table_request.Always }),
-    )
-    ∷ (
-      codes "agenda machine upcoming --text",
-      asks_here (record (asks_jobs (machine_goal.Upcoming (codes "now")) false) { table = table_request.Never }),
-    )
-    ∷ (
-      codes "agenda machine --strict",
-      asks_here (record (asks_jobs (machine_goal.Upcoming (codes "now")) false) { strict = true }),
+      codes "agenda machine scripts --idle --after t",
+      asks_here (record (asks_jobs (machine_goal.Scripts (codes "t")) false) { idle = true; table = table_request.Never }),
     )
     -- the names of jobs that are left out, in the order of the arguments
-    ∷ (
-      codes "agenda machine --except b --except=a:1",
-      asks_here (record (asks_jobs (machine_goal.Upcoming (codes "now")) false) { except = codes "b" ∷ codes "a:1" ∷ [] }),
-    )
+    ∷ (codes "agenda machine --except b --except=a:1", asks_here (record upcoming_now { except = codes "b" ∷ codes "a:1" ∷ [] }))
     ∷ (
       codes "agenda machine plan --except a",
       asks_here (record (asks_jobs (machine_goal.Plan from_now machine_sizes view.Starts) false) { except = codes "a" ∷ [] }),
@@ -410,6 +409,7 @@ hint_options : RowsHold hint_in
     ∷ (codes "agenda machine upcoming tomorrow", Some (codes "--after"))
     ∷ (codes "agenda machine --all tomorrow", Some (codes "--after"))
     ∷ (codes "agenda machine next daily weekly", Some (codes "--after"))
+    ∷ (codes "agenda machine scripts tomorrow", Some (codes "--after"))
     ∷ (codes "agenda machine check tomorrow", None)
     ∷ (codes "agenda machine sources tomorrow", None)
     ∷ (codes "agenda plan tomorrow", None)

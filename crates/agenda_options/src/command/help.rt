@@ -42,10 +42,6 @@ pub(super) const DELAYS: &str = "\
 Show each start with the latest time at which it may
 happen (RandomizedDelaySec= and AccuracySec=)";
 
-pub(super) const TABLE: &str = "Print a table, also if standard output isn't a terminal";
-
-pub(super) const TEXT: &str = "Print text, also on a terminal";
-
 pub(super) const DENY: &str = "\
 Print this warning as an error, with status 1; all is
 every warning; may be given more than once";
@@ -238,8 +234,6 @@ Examples:
 
 pub(super) const MACHINE: &str = "Answers questions about a machine's crontabs and timers";
 
-pub(super) const MACHINE_USAGE: &str = "agenda machine [COMMAND] [OPTIONS]";
-
 pub(super) const AFTER_MACHINE: &str = "\
 The machine is the one that agenda runs on, or, with --root, one whose disk is mounted at
 DIR. Its crontabs, its timers with their drop-ins, and its time zone are found by the rules
@@ -251,177 +245,7 @@ Examples:
   agenda machine plan --since 'sat 22:00' --until 'sun 04:00'
   agenda machine check --root /mnt";
 
-pub(super) const ROOT: &str = "Read the machine whose root directory is DIR";
-
-pub(super) const ALL: &str = "Include timers that aren't enabled";
-
-pub(super) const MACHINE_ZONE: &str = "\
-The time zone of the rules, such as Europe/Berlin,
-or the path of a TZif file; that of the machine
-if it isn't given";
-
-pub(super) const UTC: &str = "\
-Read the rules in UTC, like --zone UTC, and print
-times in UTC";
-
-pub(super) const MACHINE_AFTER: &str = "\
-Only starts later than this time, such as
-'tomorrow 02:00', '2026-12-01 22:00' or +8h";
-
-pub(super) const MACHINE_SINCE: &str = "\
-The start of the span, such as 'tomorrow 02:00',
-'2026-12-01 22:00' or +8h";
-
-pub(super) const MACHINE_UNTIL: &str = "\
-The end of the span, written in the same way, which
-isn't in it; 06:00 and +8h are counted from its
-start";
-
-pub(super) const MACHINE_LEAST: &str = "\
-The minimum length of a gap, such as 90min or 2h";
-
-pub(super) const EXCEPT: &str = "\
-Ignore the job with this name, as it is printed;
-may be given more than once";
-
 pub(super) const NOMINAL: &str = "Don't count the delays of timers";
-
-pub(super) const STRICT: &str = "\
-Let an error in a file stop the answer, instead of
-skipping what is invalid";
-
-pub(super) const MACHINE_UPCOMING: &str = "Prints when each job of a machine starts next";
-
-pub(super) const AFTER_MACHINE_UPCOMING: &str = "\
-Prints what 'agenda upcoming' prints, about the files that 'agenda machine sources' lists.
-Times are those of the machine's clocks, with their offset from UTC. Standard error has a
-line for each file that is skipped or isn't planned, and the errors of the files. The exit
-status is 1 if there is such an error or if a file can't be read, otherwise 0.
-
-Example:
-  agenda machine upcoming --root /mnt --delays";
-
-pub(super) const MACHINE_PLAN: &str = "Prints every start of a machine's jobs in a span of time";
-
-pub(super) const AFTER_MACHINE_PLAN: &str = "\
-Prints what 'agenda plan' prints, about the files that 'agenda machine sources' lists.
-Times are those of the machine's clocks, with their offset from UTC. Standard error has a
-line for each file that is skipped or isn't planned, and the errors of the files. The exit
-status is 1 if there is such an error or if a file can't be read, otherwise 0.
-
-Example:
-  agenda machine plan --since 'sat 22:00' --until 'sun 04:00'";
-
-pub(super) const MACHINE_QUIET: &str = "Prints the gaps in which no job of a machine starts";
-
-pub(super) const AFTER_MACHINE_QUIET: &str = "\
-Prints what 'agenda quiet --delays' prints, about the files that 'agenda machine sources'
-lists. Times are those of the machine's clocks, with their offset from UTC. Standard error
-has a line for each file that is skipped or isn't planned, and the errors of the files.
-The exit status is 1 if there is such an error or if a file can't be read, otherwise 0.
-
-Example:
-  agenda machine quiet --since tomorrow --least 2h";
-
-pub(super) const MACHINE_DOWNTIME: &str =
-    "Prints what a machine misses while it is down, and what then";
-
-pub(super) const AFTER_MACHINE_DOWNTIME: &str = "\
-Prints what 'agenda downtime' prints, about the files that 'agenda machine sources' lists.
-Times are those of the machine's clocks, with their offset from UTC. Standard error has a
-line for each file that is skipped or isn't planned, and the errors of the files. The exit
-status is 1 if there is such an error or if a file can't be read, otherwise 0.
-
-Example:
-  agenda machine downtime --since 'sat 22:00' --until 'sun 04:00'";
-
-pub(super) const MACHINE_CLEAR: &str = "Succeeds if no job of a machine starts in a span";
-
-pub(super) const AFTER_MACHINE_CLEAR: &str = "\
-Prints nothing if no start of a job may fall into the span, and the exit status is 0.
-Otherwise it prints the first one, and the exit status is 1. It is also 1 if an error is
-skipped, or if a file can't be read.
-
-Example:
-  agenda machine clear --until +90min && reboot";
-
-pub(super) const MACHINE_CHANGES: &str = "Compares a machine's plan with one made before";
-
-pub(super) const AFTER_MACHINE_CHANGES: &str = "\
-Prints what 'agenda changes' prints, about the files that 'agenda machine sources' lists.
-BEFORE has what 'agenda machine plan' printed into a file. Times are those of the machine's
-clocks, with their offset from UTC. Standard error has a line for each file that is skipped
-or isn't planned, and the errors of the files. The exit status is 1 if a start changed, if
-there is such an error or if a file can't be read, otherwise 0.
-
-Example:
-  agenda machine plan --until +7d >before
-  agenda machine changes before";
-
-pub(super) const MACHINE_WEEK: &str = "Shows how many jobs of a machine start in each hour";
-
-pub(super) const AFTER_MACHINE_WEEK: &str = "\
-Prints what 'agenda week' prints, about the files that 'agenda machine sources' lists, in
-the machine's time zone: a week from the start of today, if no span is given. Standard
-error has a line for each file that is skipped or isn't planned, and the errors of the
-files. The exit status is 1 if there is such an error or if a file can't be read, otherwise
-0.
-
-Example:
-  agenda machine week --since 'mon' --until '+7d'";
-
-pub(super) const MACHINE_SOURCES: &str = "Lists a machine's crontabs and timers";
-
-pub(super) const AFTER_MACHINE_SOURCES: &str = "\
-Prints a line for each crontab and each timer: its kind, its name and its path, separated
-by tabs. The kinds are system-crontab, cron-d, spool and timer. After a timer there is a
-line of the kind drop-in for each of its drop-ins. Standard error has a line for each file
-that is skipped or isn't planned. The exit status is 1 if a file or a directory can't be
-read, otherwise 0.
-
-Example:
-  agenda machine sources --root /mnt --all";
-
-pub(super) const MACHINE_CHECK: &str =
-    "Prints errors and likely mistakes in a machine's crontabs and timers";
-
-pub(super) const AFTER_MACHINE_CHECK: &str = "\
-Prints all errors and warnings about the files that 'agenda machine sources' lists, in the
-form of 'agenda check'. Each names the file and the line that it is about, even if that is
-a line of a drop-in. Standard error has a line for each file that is skipped or isn't
-planned. The exit status is 1 if there is an error, or if a file or a directory can't be
-read, otherwise 0.
-
-Example:
-  agenda machine check --root /mnt --zone Europe/Berlin";
-
-pub(super) const MACHINE_NEXT: &str = "Prints the next starts of a rule by the machine's clock";
-
-pub(super) const RULE: &str = "\
-A cron rule of five words, or one that begins with @,
-or a calendar event of systemd; put it in quotes";
-
-pub(super) const AFTER_MACHINE_NEXT: &str = "\
-Prints what 'agenda next' prints of the rule, in the time zone of the machine that agenda
-runs on. Times are those of its clocks, with their offset from UTC. A RULE of five words,
-or that begins with @, is a cron rule; any other is a calendar event, which may end with a
-time zone.
-
-Examples:
-  agenda machine next '30 2 * * *'
-  agenda machine next 'Mon..Fri 09:00 Europe/Berlin' --count 1";
-
-pub(super) const MACHINE_DESCRIBE: &str = "Says in words when each job of a machine starts";
-
-pub(super) const AFTER_MACHINE_DESCRIBE: &str = "\
-Prints what 'agenda describe' prints, about the files that 'agenda machine sources' lists,
-or, with a RULE, about this rule alone. Standard error has a line for each file that is
-skipped or isn't planned, and the errors of the files. The exit status is 1 if there is
-such an error or if a file can't be read, otherwise 0.
-
-Examples:
-  agenda machine describe
-  agenda machine describe 'Mon..Fri 09:00 Europe/Berlin'";
 
 pub(super) const STEPS: &str = "Runs a script of steps on a mailbox, for testing";
 

@@ -3,7 +3,9 @@ ghost use Rattle.std.specs.Prelude.{◌≡◌, IfOk, false};
 ghost use Rattle.clap.specs.Words.{app_of};
 ghost use Rattle.clap.specs.declared.builder.command.Command.TheViews.{out-Command};
 ghost use Rattle.agenda_options.specs.Command.{machine, machine_alone, machine_changes, machine_check, machine_clear, machine_describe, machine_downtime, machine_next};
-ghost use Rattle.agenda_options.specs.Command.{machine_plan, machine_quiet, machine_sources, machine_upcoming, machine_week, with_machine_span, with_machine_times};
+ghost use Rattle.agenda_options.specs.Command.{machine_plan, machine_quiet, machine_scripts, machine_sources, machine_upcoming, machine_week, with_machine_span, with_machine_times};
+
+mod texts;
 
 use super::subcommands::Subcommand;
 use super::{
@@ -14,33 +16,31 @@ use clap::Command;
 use std::alloc::{AllocError, Global};
 
 // The options that name a machine.
-const ROOT: CommandOption<'static> = CommandOption::Preset("root", "DIR", "/", help::ROOT);
+const ROOT: CommandOption<'static> = CommandOption::Preset("root", "DIR", "/", texts::ROOT);
 
-const ALL: CommandOption<'static> = CommandOption::Flag("all", help::ALL);
+const ALL: CommandOption<'static> = CommandOption::Flag("all", texts::ALL);
 
 // The options for its time zone.
-const ZONE: CommandOption<'static> = CommandOption::Text("zone", "ZONE", help::MACHINE_ZONE);
+const ZONE: CommandOption<'static> = CommandOption::Text("zone", "ZONE", texts::ZONE);
 
-const UTC: CommandOption<'static> = CommandOption::Flag("utc", help::UTC);
+const UTC: CommandOption<'static> = CommandOption::Flag("utc", texts::UTC);
 
 // The time after which starts are listed.
-const AFTER: CommandOption<'static> = CommandOption::Preset(
-    "after",
-    "TIME",
-    "now",
-    help::MACHINE_AFTER,
-);
+const AFTER: CommandOption<'static> = CommandOption::Preset("after", "TIME", "now", texts::AFTER);
 
 // The jobs that are left out of the answer.
-const EXCEPT: CommandOption<'static> = CommandOption::Repeated("except", "JOB", help::EXCEPT);
+const EXCEPT: CommandOption<'static> = CommandOption::Repeated("except", "JOB", texts::EXCEPT);
+
+// Whether jobs that do nothing are in the answer.
+const IDLE: CommandOption<'static> = CommandOption::Flag("idle", texts::IDLE);
 
 // Whether an error in a file stops the answer.
-const STRICT: CommandOption<'static> = CommandOption::Flag("strict", help::STRICT);
+const STRICT: CommandOption<'static> = CommandOption::Flag("strict", texts::STRICT);
 
 // The other forms of an answer.
-const TABLE: CommandOption<'static> = CommandOption::Flag("table", help::TABLE);
+const TABLE: CommandOption<'static> = CommandOption::Flag("table", texts::TABLE);
 
-const TEXT: CommandOption<'static> = CommandOption::Flag("text", help::TEXT);
+const TEXT: CommandOption<'static> = CommandOption::Flag("text", texts::TEXT);
 
 // The maximum number of starts.
 const LIMIT: CommandOption<'static> = CommandOption::Number("limit", "1000000", help::LIMIT);
@@ -62,6 +62,7 @@ pub fn machine_command<'a>(alloc: Global) -> Result<Command<'a>, AllocError>
         Subcommand::MachineClear,
         Subcommand::MachineChanges,
         Subcommand::MachineWeek,
+        Subcommand::MachineScripts,
         Subcommand::MachineCheck,
         Subcommand::MachineSources,
         Subcommand::MachineNext,
@@ -77,7 +78,7 @@ fn machine_alone<'a>(alloc: Global) -> Result<Command<'a>, AllocError>
     Command::new(alloc, "machine")
         .about(help::MACHINE)
         .after_help(help::AFTER_MACHINE)
-        .override_usage(help::MACHINE_USAGE)
+        .override_usage(texts::USAGE)
         .subcommand_required(true)
         .disable_help_subcommand(true)
         .bin_name("agenda machine")
@@ -93,12 +94,7 @@ pub(super) fn machine_sources_command<'a>(alloc: Global) -> Result<Command<'a>, 
     ensures app { IfOk result (λ command. app_of command ≡ machine_sources) }
     ensures local { IfOk result (λ command. (out-Command command).has_globals ≡ false) }
 {
-    let command = new_subcommand(
-        alloc,
-        "sources",
-        help::MACHINE_SOURCES,
-        help::AFTER_MACHINE_SOURCES,
-    );
+    let command = new_subcommand(alloc, "sources", texts::SOURCES, texts::AFTER_SOURCES);
     with_arguments(alloc, command, &[ROOT, ALL, JSON])
 }
 
@@ -112,12 +108,7 @@ pub(super) fn machine_check_command<'a>(alloc: Global) -> Result<Command<'a>, Al
     ensures app { IfOk result (λ command. app_of command ≡ machine_check) }
     ensures local { IfOk result (λ command. (out-Command command).has_globals ≡ false) }
 {
-    let command = new_subcommand(
-        alloc,
-        "check",
-        help::MACHINE_CHECK,
-        help::AFTER_MACHINE_CHECK,
-    );
+    let command = new_subcommand(alloc, "check", texts::CHECK, texts::AFTER_CHECK);
     with_arguments(alloc, command, &[ROOT, ALL, ZONE, UTC, DENY, ALLOW, JSON])
 }
 
@@ -131,12 +122,7 @@ pub(super) fn machine_upcoming_command<'a>(alloc: Global) -> Result<Command<'a>,
     ensures app { IfOk result (λ command. app_of command ≡ machine_upcoming) }
     ensures local { IfOk result (λ command. (out-Command command).has_globals ≡ false) }
 {
-    let command = new_subcommand(
-        alloc,
-        "upcoming",
-        help::MACHINE_UPCOMING,
-        help::AFTER_MACHINE_UPCOMING,
-    );
+    let command = new_subcommand(alloc, "upcoming", texts::UPCOMING, texts::AFTER_UPCOMING);
     with_arguments(
         alloc,
         command,
@@ -147,6 +133,7 @@ pub(super) fn machine_upcoming_command<'a>(alloc: Global) -> Result<Command<'a>,
             ZONE,
             UTC,
             EXCEPT,
+            IDLE,
             CommandOption::Flag("delays", help::DELAYS),
             STRICT,
             TABLE,
@@ -166,7 +153,7 @@ pub(super) fn machine_plan_command<'a>(alloc: Global) -> Result<Command<'a>, All
     ensures app { IfOk result (λ command. app_of command ≡ machine_plan) }
     ensures local { IfOk result (λ command. (out-Command command).has_globals ≡ false) }
 {
-    let command = new_subcommand(alloc, "plan", help::MACHINE_PLAN, help::AFTER_MACHINE_PLAN);
+    let command = new_subcommand(alloc, "plan", texts::PLAN, texts::AFTER_PLAN);
     let command = with_machine_span(alloc, command)?;
     with_arguments(
         alloc,
@@ -175,6 +162,7 @@ pub(super) fn machine_plan_command<'a>(alloc: Global) -> Result<Command<'a>, All
             ZONE,
             UTC,
             EXCEPT,
+            IDLE,
             CommandOption::Flag("delays", help::DELAYS),
             STRICT,
             TABLE,
@@ -197,21 +185,17 @@ pub(super) fn machine_quiet_command<'a>(alloc: Global) -> Result<Command<'a>, Al
     ensures app { IfOk result (λ command. app_of command ≡ machine_quiet) }
     ensures local { IfOk result (λ command. (out-Command command).has_globals ≡ false) }
 {
-    let command = new_subcommand(
-        alloc,
-        "quiet",
-        help::MACHINE_QUIET,
-        help::AFTER_MACHINE_QUIET,
-    );
+    let command = new_subcommand(alloc, "quiet", texts::QUIET, texts::AFTER_QUIET);
     let command = with_machine_span(alloc, command)?;
     with_arguments(
         alloc,
         command,
         &[
-            CommandOption::Preset("least", "LENGTH", "30min", help::MACHINE_LEAST),
+            CommandOption::Preset("least", "LENGTH", "30min", texts::LEAST),
             ZONE,
             UTC,
             EXCEPT,
+            IDLE,
             CommandOption::Flag("nominal", help::NOMINAL),
             STRICT,
             TABLE,
@@ -234,18 +218,13 @@ pub(super) fn machine_downtime_command<'a>(alloc: Global) -> Result<Command<'a>,
     ensures app { IfOk result (λ command. app_of command ≡ machine_downtime) }
     ensures local { IfOk result (λ command. (out-Command command).has_globals ≡ false) }
 {
-    let command = new_subcommand(
-        alloc,
-        "downtime",
-        help::MACHINE_DOWNTIME,
-        help::AFTER_MACHINE_DOWNTIME,
-    );
+    let command = new_subcommand(alloc, "downtime", texts::DOWNTIME, texts::AFTER_DOWNTIME);
     let command = with_machine_span(alloc, command)?;
     with_arguments(
         alloc,
         command,
         &[
-            ZONE, UTC, EXCEPT, STRICT, TABLE, TEXT, JSON, LIMIT, PLANNERS, ROOM,
+            ZONE, UTC, EXCEPT, IDLE, STRICT, TABLE, TEXT, JSON, LIMIT, PLANNERS, ROOM,
         ],
     )
 }
@@ -260,12 +239,7 @@ pub(super) fn machine_clear_command<'a>(alloc: Global) -> Result<Command<'a>, Al
     ensures app { IfOk result (λ command. app_of command ≡ machine_clear) }
     ensures local { IfOk result (λ command. (out-Command command).has_globals ≡ false) }
 {
-    let command = new_subcommand(
-        alloc,
-        "clear",
-        help::MACHINE_CLEAR,
-        help::AFTER_MACHINE_CLEAR,
-    );
+    let command = new_subcommand(alloc, "clear", texts::CLEAR, texts::AFTER_CLEAR);
     let command = with_machine_span(alloc, command)?;
     with_arguments(
         alloc,
@@ -274,6 +248,7 @@ pub(super) fn machine_clear_command<'a>(alloc: Global) -> Result<Command<'a>, Al
             ZONE,
             UTC,
             EXCEPT,
+            IDLE,
             CommandOption::Flag("nominal", help::NOMINAL),
             STRICT,
             PLANNERS,
@@ -292,12 +267,7 @@ pub(super) fn machine_changes_command<'a>(alloc: Global) -> Result<Command<'a>, 
     ensures app { IfOk result (λ command. app_of command ≡ machine_changes) }
     ensures local { IfOk result (λ command. (out-Command command).has_globals ≡ false) }
 {
-    let command = new_subcommand(
-        alloc,
-        "changes",
-        help::MACHINE_CHANGES,
-        help::AFTER_MACHINE_CHANGES,
-    );
+    let command = new_subcommand(alloc, "changes", texts::CHANGES, texts::AFTER_CHANGES);
     with_arguments(
         alloc,
         command,
@@ -308,6 +278,7 @@ pub(super) fn machine_changes_command<'a>(alloc: Global) -> Result<Command<'a>, 
             ZONE,
             UTC,
             EXCEPT,
+            IDLE,
             STRICT,
             TABLE,
             TEXT,
@@ -329,12 +300,30 @@ pub(super) fn machine_week_command<'a>(alloc: Global) -> Result<Command<'a>, All
     ensures app { IfOk result (λ command. app_of command ≡ machine_week) }
     ensures local { IfOk result (λ command. (out-Command command).has_globals ≡ false) }
 {
-    let command = new_subcommand(alloc, "week", help::MACHINE_WEEK, help::AFTER_MACHINE_WEEK);
+    let command = new_subcommand(alloc, "week", texts::WEEK, texts::AFTER_WEEK);
     let command = with_machine_times(alloc, command, "today", "+7d")?;
     with_arguments(
         alloc,
         command,
-        &[ZONE, UTC, EXCEPT, STRICT, JSON, LIMIT, PLANNERS, ROOM],
+        &[ZONE, UTC, EXCEPT, IDLE, STRICT, JSON, LIMIT, PLANNERS, ROOM],
+    )
+}
+
+/// Returns the command line of `agenda machine scripts`.
+///
+/// # Errors
+///
+/// An allocation failed.
+#[tactic(auto, unfolding(crate::specs::Command::machine_scripts, crate::specs::Command::with_machine))]
+pub(super) fn machine_scripts_command<'a>(alloc: Global) -> Result<Command<'a>, AllocError>
+    ensures app { IfOk result (λ command. app_of command ≡ machine_scripts) }
+    ensures local { IfOk result (λ command. (out-Command command).has_globals ≡ false) }
+{
+    let command = new_subcommand(alloc, "scripts", texts::SCRIPTS, texts::AFTER_SCRIPTS);
+    with_arguments(
+        alloc,
+        command,
+        &[ROOT, ALL, AFTER, ZONE, UTC, EXCEPT, IDLE, STRICT],
     )
 }
 
@@ -348,12 +337,12 @@ pub(super) fn machine_next_command<'a>(alloc: Global) -> Result<Command<'a>, All
     ensures app { IfOk result (λ command. app_of command ≡ machine_next) }
     ensures local { IfOk result (λ command. (out-Command command).has_globals ≡ false) }
 {
-    let command = new_subcommand(alloc, "next", help::MACHINE_NEXT, help::AFTER_MACHINE_NEXT);
+    let command = new_subcommand(alloc, "next", texts::NEXT, texts::AFTER_NEXT);
     with_arguments(
         alloc,
         command,
         &[
-            CommandOption::Argument("rule", "RULE", help::RULE),
+            CommandOption::Argument("rule", "RULE", texts::RULE),
             AFTER,
             CommandOption::Number("count", "5", help::COUNT),
             ZONE,
@@ -375,18 +364,15 @@ pub(super) fn machine_describe_command<'a>(alloc: Global) -> Result<Command<'a>,
     ensures app { IfOk result (λ command. app_of command ≡ machine_describe) }
     ensures local { IfOk result (λ command. (out-Command command).has_globals ≡ false) }
 {
-    let command = new_subcommand(
-        alloc,
-        "describe",
-        help::MACHINE_DESCRIBE,
-        help::AFTER_MACHINE_DESCRIBE,
-    );
+    let command = new_subcommand(alloc, "describe", texts::DESCRIBE, texts::AFTER_DESCRIBE);
     let command = with_arguments(
         alloc,
         command,
-        &[ROOT, ALL, ZONE, UTC, EXCEPT, STRICT, TABLE, TEXT, JSON],
+        &[
+            ROOT, ALL, ZONE, UTC, EXCEPT, IDLE, STRICT, TABLE, TEXT, JSON,
+        ],
     )?;
-    with_argument(command, argument(alloc, "rule", "RULE", help::RULE))
+    with_argument(command, argument(alloc, "rule", "RULE", texts::RULE))
 }
 
 // Adds what names a machine, and the span of a plan of it: from now on for a day, if it isn't given.
@@ -417,10 +403,10 @@ fn with_machine_times<'a>(
         &[
             ROOT,
             ALL,
-            CommandOption::Preset("since", "TIME", since, help::MACHINE_SINCE),
+            CommandOption::Preset("since", "TIME", since, texts::SINCE),
         ],
     )?;
-    let until = CommandOption::Preset("until", "TIME", until, help::MACHINE_UNTIL).to_clap(alloc);
+    let until = CommandOption::Preset("until", "TIME", until, texts::UNTIL).to_clap(alloc);
     let until = with_alias(until, "upto")?;
     with_argument(command, until)
 }

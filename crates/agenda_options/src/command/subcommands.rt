@@ -7,7 +7,8 @@ ghost use Rattle.agenda_options.specs.Command.{app_for};
 use super::machine::{
     machine_changes_command, machine_check_command, machine_clear_command,
     machine_describe_command, machine_downtime_command, machine_next_command, machine_plan_command,
-    machine_quiet_command, machine_sources_command, machine_upcoming_command, machine_week_command,
+    machine_quiet_command, machine_scripts_command, machine_sources_command,
+    machine_upcoming_command, machine_week_command,
 };
 use super::windows::{changes_command, clear_command, downtime_command, week_command};
 use super::{
@@ -40,6 +41,7 @@ pub(super) enum Subcommand {
     MachineClear,
     MachineChanges,
     MachineWeek,
+    MachineScripts,
     MachineCheck,
     MachineSources,
     MachineNext,
@@ -81,6 +83,7 @@ impl Subcommand {
             Subcommand::MachineClear => machine_clear_command(alloc),
             Subcommand::MachineChanges => machine_changes_command(alloc),
             Subcommand::MachineWeek => machine_week_command(alloc),
+            Subcommand::MachineScripts => machine_scripts_command(alloc),
             Subcommand::MachineCheck => machine_check_command(alloc),
             Subcommand::MachineSources => machine_sources_command(alloc),
             Subcommand::MachineNext => machine_next_command(alloc),

@@ -7,7 +7,7 @@ use Rattle.clap.specs.Kinds.{IsAmong}
 use Rattle.clap.specs.Words.{App, app_of, is_simple, is_simple_and_free, kind_of, subcommand_of, subcommand_rows_of}
 use Rattle.clap.specs.declared.error.kind.ErrorKind.TheVariants as kind
 use Rattle.agenda_options.specs.Command.{machine}
-use Rattle.agenda_arguments.specs.Arguments.{asked_by_machine, asked_by_question}
+use Rattle.agenda_arguments.specs.Machine.{asked_by_machine, asked_by_question}
 use Rattle.agenda_arguments.proofs.FaultLemmas.{machine_alike, machine_is_free, machine_is_simple, rejected}
 use Rattle.agenda_arguments.proofs.machine.asked_by_machine.Goals as goal
 

@@ -10,7 +10,7 @@ use Rattle.clap.specs.Words.{ReadsOne, found_of, one_of, one_text, rows_of}
 use Rattle.clap.specs.declared.builder.value_parser.ValueParser.TheVariants as parser
 use Rattle.std.specs.declared.num.ParseIntError.{ParseIntError}
 use Rattle.clap.specs.declared.parser.matches.ArgMatches.{ArgMatches}
-use Rattle.agenda_arguments.specs.Arguments.{number_in, number_in_text, wanted}
+use Rattle.agenda_arguments.specs.Values.{number_in, number_in_text, wanted}
 use Rattle.agenda_arguments.proofs.values.number_argument.Goals as goal
 
 -- what `parse` at 32 bits reads from a text is its number

@@ -1,7 +1,0 @@
-use Rattle.std.proofs.Common.{◌≡◌, take}
-use Rattle.agenda_machine.specs.JobFiles.{files_of_jobs}
-use Rattle.agenda_machine.proofs.job_files.files_of_jobs.Given as goal
-
--- the files of the jobs so far
-abbrev pub invariant-loop-number : goal.invariant-loop-number
-invariant-loop-number l = l.files.items ≡ files_of_jobs l.root l.sources (take l.number l.jobs)
