@@ -108,7 +108,7 @@ whole true true is = absurd cc
 whole false incomplete is = absurd cc
 
 pub machine_safe : MachineClearIsSafe
-machine_safe dir machine paths errors form planning jobs outcome remark text (goes answer is (goes said computed same)) answered done =
+machine_safe tree dir machine paths errors form planning jobs outcome remark text (goes answer is (goes said computed same)) answered done =
     let status = found_status (has_found answer (finds_any (Plan planning First) jobs)) (machine_status machine (is_all_clean errors)) in
     let pair : ◌≡◌ {A = Outcome × Option (List ℕ)} (outcome, remark)
     (outcome_of paths errors status (naming_limit planning.sizes.limit answer), said) = cc in
@@ -121,5 +121,5 @@ machine_safe dir machine paths errors form planning jobs outcome remark text (go
       no_unread,
       nothing_from (counted planning.delays jobs) planning (first_of (counted planning.delays jobs) planning) refl first,
     )
-machine_safe dir machine paths errors form planning jobs outcome remark text (goes answer is (stops failure _ same)) answered done = absurd cc
-machine_safe dir machine paths errors form planning jobs outcome remark text (stops failure _ same) answered done = absurd cc
+machine_safe tree dir machine paths errors form planning jobs outcome remark text (goes answer is (stops failure _ same)) answered done = absurd cc
+machine_safe tree dir machine paths errors form planning jobs outcome remark text (stops failure _ same) answered done = absurd cc

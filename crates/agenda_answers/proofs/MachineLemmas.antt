@@ -12,6 +12,7 @@ use Rattle.plan_write.specs.declared.JobFile.{JobFile}
 use Rattle.plan_streams.specs.declared.WriteFault.{WriteFault}
 use Rattle.plan_machine.specs.Machine.{AreTooManyUnits, IsMachine}
 use Rattle.plan_machine.specs.declared.machine.Machine.{Machine}
+use Rattle.agenda_arguments.specs.declared.MachineCheck.{MachineCheck}
 use Rattle.agenda_arguments.specs.declared.MachineDescribe.{MachineDescribe}
 use Rattle.agenda_arguments.specs.declared.MachineJobs.{MachineJobs}
 use Rattle.agenda_faults.specs.declared.faults.Failure.{Failure}
@@ -29,7 +30,7 @@ use Rattle.agenda_sources.specs.declared.Source.{Source}
 use Rattle.agenda_sources.specs.declared.SourcePath.{SourcePath}
 use Rattle.agenda_inputs.specs.Files.{Held, most_read}
 use Rattle.agenda_answers.specs.Host.{KnownHost}
-use Rattle.agenda_answers.specs.Machine.{Shown, found_below, jobs_rest, machine_zones, plans, remark_with, said_of, shows_descriptions, shows_jobs, stops_at_first}
+use Rattle.agenda_answers.specs.Machine.{Shown, found_below, jobs_rest, machine_zones, plans, remark_with, said_of, shows_descriptions, shows_findings, shows_jobs, stops_at_first}
 use Rattle.agenda_answers.specs.Outcome.{Outcome, parted, settles}
 use Rattle.agenda_inputs.specs.MachineZone.{KnownTree}
 use Rattle.agenda_inputs.specs.Steps.{Step, goes, stops}
@@ -63,6 +64,14 @@ pub described_as_planned :
     shows_descriptions held host dir describe machine planned.unplanned.items sources end
 described_as_planned held host dir describe machine planned sources end same shown =
     subst (λ (m : Machine). shows_descriptions held host dir describe m planned.unplanned.items sources end) same shown
+
+pub checked_as_planned :
+    (held : Held) (tree : KnownTree) (dir : List ℕ) (check : MachineCheck) (machine planned : Machine) (end : Result Shown Failure) →
+    planned ≡ record machine { unplanned = planned.unplanned } →
+    shows_findings held tree dir check planned planned.unplanned.items end →
+    shows_findings held tree dir check machine planned.unplanned.items end
+checked_as_planned held tree dir check machine planned end same shown =
+    subst (λ (m : Machine). shows_findings held tree dir check m planned.unplanned.items end) same shown
 
 -- standard error failed, which it doesn't if nothing is reported
 pub told_off :

@@ -14,6 +14,7 @@ use Rattle.agenda_commands.specs.declared.Goal.TheVariants.{Plan}
 use Rattle.agenda_commands.specs.declared.Planning.{Planning}
 use Rattle.agenda_faults.specs.Status.{done_status}
 use Rattle.agenda_inputs.specs.Files.{Held}
+use Rattle.agenda_inputs.specs.MachineZone.{KnownTree}
 use Rattle.agenda_inputs.specs.Sources.{input_of}
 use Rattle.agenda_inputs.specs.declared.Tried.{Tried}
 use Rattle.agenda_sources.specs.Findings.{is_all_clean}
@@ -46,8 +47,9 @@ ClearIsSafe = (keeps_going : Bool) (held : Held) (planning : Planning) (request 
 -- the same of a machine with these jobs: then its files have no error and could all be read
 abbrev pub MachineClearIsSafe : Type 0
 MachineClearIsSafe =
-    (dir : List ℕ) (machine : Machine) (paths : List SourcePath) (errors : List Found) (form : Form) (planning : Planning)
+    (tree : KnownTree) (dir : List ℕ) (machine : Machine) (paths : List SourcePath) (errors : List Found) (form : Form)
+    (planning : Planning)
     (jobs : List JobParts) (outcome : Outcome) (remark : Option (List ℕ)) (text : List ℕ)
-    → answers_said dir machine paths errors form (Plan planning First) jobs (Ok (outcome, remark)) → outcome.answer ≡ Ok text
+    → answers_said tree dir machine paths errors form (Plan planning First) jobs (Ok (outcome, remark)) → outcome.answer ≡ Ok text
     → outcome.status ≡ done_status
     → (is_all_clean errors ≡ true) × (is_incomplete machine.skipped.items ≡ false) × NothingStarts (counted planning.delays jobs) planning.span

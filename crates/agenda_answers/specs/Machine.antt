@@ -1,5 +1,5 @@
 -- The answer to a question about a machine. All of it is our choice (agenda).
-use Rattle.std.specs.Prelude.{◌≡◌, ◌⊎◌, ℕ, Bool, true, false, not, ◌&&◌, ◌==◌, if◌then◌else◌, List, [], codes, is_ok, length, take, Option, None, Some, Result, Ok, Err}
+use Rattle.std.specs.Prelude.{◌≡◌, ◌⊎◌, ℕ, Bool, true, false, not, ◌&&◌, ◌==◌, if◌then◌else◌, List, [], ◌++◌, codes, is_ok, length, take, Option, None, Some, Result, Ok, Err}
 use Rattle.std.specs.Io.KnownBytes.{Appends, Keeps}
 use Rattle.plan_clock.specs.declared.row.Change.{Change}
 use Rattle.plan_rules.specs.Job.{JobParts}
@@ -38,7 +38,7 @@ use Rattle.agenda_findings.specs.Findings.{check_text}
 use Rattle.agenda_findings.specs.Skipped.{skipped_text}
 use Rattle.agenda_machine.specs.JobFiles.{files_of_jobs}
 use Rattle.agenda_machine.specs.Listing.{sources_text}
-use Rattle.agenda_machine.specs.Loaded.{loaded_sources, unplanned_jobs}
+use Rattle.agenda_machine.specs.Loaded.{idle_jobs, planned_sources, unplanned_with_idle}
 use Rattle.agenda_machine.specs.Places.{located, paths_of, sources_of}
 use Rattle.agenda_machine.specs.Reports.{is_incomplete, is_reported, lines_of}
 use Rattle.agenda_policy.specs.declared.Policy.{Policy}
@@ -162,13 +162,9 @@ shown_with dir machine unplanned is_zone_unknown rest = record {
   rest = rest;
 }
 
--- the same, if no text of a timer matters for that
-abbrev pub shown_of : (dir : List ℕ) → Machine → (is_zone_unknown : Bool) → Rest → Shown
-shown_of dir machine is_zone_unknown rest = shown_with dir machine machine.unplanned.items is_zone_unknown rest
-
 -- `sources`: the zone isn't read
 abbrev pub shows_sources : (dir : List ℕ) → (json : Bool) → Machine → Step Shown
-shows_sources dir json machine = gives (shown_of dir machine false (sources_rest dir json machine))
+shows_sources dir json machine = gives (shown_with dir machine machine.unplanned.items false (sources_rest dir json machine))
 
 -- the findings in the sources of a machine that are reported under a policy, each with the path and the line of the file that it is
 -- in. Comments count as they are in the text that is read
@@ -193,26 +189,34 @@ machine_zones held tree clock sources = do
   gives (with_accuracy accuracy zones)
 
 -- `check`: the zone is read first, and then the zones of events
-abbrev pub shows_findings : Held → KnownTree → (dir : List ℕ) → MachineCheck → Machine → Step Shown
-shows_findings held tree dir check machine = do
+abbrev pub shows_findings : Held → KnownTree → (dir : List ℕ) → MachineCheck → Machine → (unplanned : List NotPlanned) → Step Shown
+shows_findings held tree dir check machine unplanned = do
   clock ← machine_clock held tree (root_of dir) check.zone
   zones ← machine_zones held tree clock.clock (sources_of machine.sources.items)
-  computes (shown_of dir machine clock.is_unknown
+  computes (shown_with dir machine unplanned clock.is_unknown
       (findings_rest dir check.json machine (found_in check.policy machine zones (sources_of machine.sources.items))))
 
 -- the jobs that are left: without the errors, and without the jobs with these names
 abbrev pub kept_in : (except : List (List ℕ)) → TimeZones → List Source → List JobParts
 kept_in except zones sources = without except (kept_jobs zones sources)
 
--- the files of jobs, if an answer in this form has them: its lines in JSON do
-abbrev pub files_if : Form → (files : List JobFile) → Option (List JobFile)
-files_if (form.Lines format) files = if format.json then Some files else None
-files_if (form.Table table) files = None
+-- an answer in this form has the files of its jobs, or their scripts: a table, lines in JSON, and the list of scripts
+abbrev pub needs_files : Form → Goal → Bool
+needs_files (form.Table table) goal = true
+needs_files (form.Lines format) (goal.Scripts after) = true
+needs_files (form.Lines format) goal = format.json
 
--- the answer for jobs, in this form, with the files that they come from
-abbrev pub answers_with_files : (dir : List ℕ) → Machine → Form → Goal → (kept : List JobParts) → Step (Result (List ℕ) RunFault)
-answers_with_files dir machine form goal kept = do
-  files ← computes (files_if form (files_of_jobs (root_of dir) machine.sources.items kept))
+-- the files of jobs, if they are needed
+abbrev pub files_if : (needed : Bool) → (files : List JobFile) → Option (List JobFile)
+files_if true files = Some files
+files_if false files = None
+
+-- the answer for jobs, in this form, with the files that they come from and their scripts
+abbrev pub answers_with_files :
+    KnownTree → (dir : List ℕ) → Machine → Form → Goal → (kept : List JobParts) → Step (Result (List ℕ) RunFault)
+answers_with_files tree dir machine form goal kept = do
+  files ← looks tree (λ files.
+      files ≡ files_if (needs_files form goal) (files_of_jobs tree.held (root_of dir) machine.sources.items kept))
   answer_of (AnswersForm files form) goal (Ok kept)
 
 -- an answer; if it has too many starts, the error names the limit
@@ -226,6 +230,7 @@ in_words (goal.Plan planning view) answer = naming_limit planning.sizes.limit an
 in_words (goal.Quiet planning least) answer = naming_limit planning.sizes.limit answer
 in_words (goal.Changes planning before) answer = naming_limit planning.sizes.limit answer
 in_words (goal.Upcoming after delays) answer = answer
+in_words (goal.Scripts after) answer = answer
 
 -- the answer for jobs, without the errors that are skipped
 abbrev pub outcome_of : (paths : List SourcePath) → List Found → (status : ℕ) → Result (List ℕ) RunFault → Outcome
@@ -251,10 +256,10 @@ remark_with goal is_answer remark status = remark
 
 -- the answer for the jobs that are left, and what is said about it
 abbrev pub answers_said :
-    (dir : List ℕ) → Machine → (paths : List SourcePath) → List Found → Form → Goal → (kept : List JobParts) →
+    KnownTree → (dir : List ℕ) → Machine → (paths : List SourcePath) → List Found → Form → Goal → (kept : List JobParts) →
     Step (Outcome × Option (List ℕ))
-answers_said dir machine paths errors form goal kept = do
-  answer ← answers_with_files dir machine form goal kept
+answers_said tree dir machine paths errors form goal kept = do
+  answer ← answers_with_files tree dir machine form goal kept
   remark ← computes
       (remark_with goal (is_ok answer) (said_of answer (remark_of goal kept)) (machine_status machine (is_all_clean errors)))
   gives (
@@ -280,7 +285,7 @@ shows_jobs_in dir jobs host goal machine unplanned planned clock zones = do
       (unnamed_zone clock.is_of_file) zones.clock
   errors ← computes (errors_in machine zones (sources_of machine.sources.items))
   rest ← jobs_rest (is_stopped jobs.strict errors) (paths_of false (root_of dir) machine.sources.items) errors
-      (answers_said dir machine (paths_of false (root_of dir) machine.sources.items) errors form goal
+      (answers_said host.tree dir machine (paths_of false (root_of dir) machine.sources.items) errors form goal
       (kept_in jobs.except zones planned))
   gives (shown_with dir machine unplanned clock.is_unknown rest)
 
@@ -325,17 +330,33 @@ shows_descriptions held host dir describe machine unplanned planned = do
 abbrev pub host_below : KnownHost → (root : List ℕ) → KnownHost
 host_below host root = record { tree = tree_below host.tree root; time = host.time; frame = host.frame }
 
+-- what isn't planned on a machine. If idle jobs aren't, they are among it
+abbrev pub unplanned_on : KnownTree → (idle : Bool) → Machine → Step (List NotPlanned)
+unplanned_on tree idle machine = looks tree (λ unplanned. unplanned ≡ unplanned_with_idle tree.held idle machine)
+
+-- the sources that a plan reads, with or without idle jobs
+abbrev pub planned_on : KnownTree → (idle : Bool) → Machine → Step (List Source)
+planned_on tree idle machine = looks tree (λ planned. planned ≡ planned_sources tree.held idle machine)
+
+-- what isn't planned on a machine by its files alone, and its idle jobs
+abbrev pub idle_on : KnownTree → Machine → Step (List NotPlanned)
+idle_on tree machine = looks tree (λ unplanned. unplanned ≡ machine.unplanned.items ++ idle_jobs tree.held machine)
+
 -- the answer to a question. For jobs, timers that start by monotonic settings alone are among what isn't planned, and so is what the
--- daemons don't load
+-- daemons don't load, and idle jobs unless they are asked for
 abbrev pub shows : Held → KnownHost → (dir : List ℕ) → MachineQuestion → Machine → Step Shown
 shows held host dir (question.Jobs jobs) machine = do
-  unplanned ← computes (unplanned_jobs machine)
-  shows_jobs held (host_below host (root_of dir)) dir jobs machine unplanned (loaded_sources machine)
+  unplanned ← unplanned_on (tree_below host.tree (root_of dir)) jobs.idle machine
+  planned ← planned_on (tree_below host.tree (root_of dir)) jobs.idle machine
+  shows_jobs held (host_below host (root_of dir)) dir jobs machine unplanned planned
 shows held host dir (question.Sources json) machine = shows_sources dir json machine
 shows held host dir (question.Describe describe) machine = do
-  unplanned ← computes (unplanned_jobs machine)
-  shows_descriptions held (host_below host (root_of dir)) dir describe machine unplanned (loaded_sources machine)
-shows held host dir (question.Check check) machine = shows_findings held (tree_below host.tree (root_of dir)) dir check machine
+  unplanned ← unplanned_on (tree_below host.tree (root_of dir)) describe.idle machine
+  planned ← planned_on (tree_below host.tree (root_of dir)) describe.idle machine
+  shows_descriptions held (host_below host (root_of dir)) dir describe machine unplanned planned
+shows held host dir (question.Check check) machine = do
+  unplanned ← idle_on (tree_below host.tree (root_of dir)) machine
+  shows_findings held (tree_below host.tree (root_of dir)) dir check machine unplanned
 
 -- the same, once the machine's sources are found
 abbrev pub machine_ends : Held → KnownHost → MachineRequest → Step Shown

@@ -9,7 +9,7 @@ use Rattle.plan_times.specs.Times.{IsSince, IsUntil}
 use Rattle.plan_times.specs.declared.fault.TimeFault.{TimeFault}
 use Rattle.plan_write.specs.LocalTimes.{local_text}
 use Rattle.agenda_arguments.specs.declared.MachineGoal.{MachineGoal}
-use Rattle.agenda_arguments.specs.declared.MachineGoal.TheVariants.{Upcoming, Plan, Quiet, Changes}
+use Rattle.agenda_arguments.specs.declared.MachineGoal.TheVariants.{Upcoming, Plan, Quiet, Changes, Scripts}
 use Rattle.agenda_arguments.specs.declared.MachineJobs.{MachineJobs}
 use Rattle.agenda_arguments.specs.declared.SpanRequest.{SpanRequest}
 use Rattle.agenda_commands.specs.declared.Goal.{Goal}
@@ -95,6 +95,9 @@ abbrev pub goal_by : Held → (now : ℕ) → (clock : List Change) → (delays 
 goal_by held now clock delays (Upcoming after) = do
   moment ← since_at option.After now clock after
   gives (goal.Upcoming moment delays)
+goal_by held now clock delays (Scripts after) = do
+  moment ← since_at option.After now clock after
+  gives (goal.Scripts moment)
 goal_by held now clock delays (Plan span sizes view) = do
   bounds ← span_at now clock span
   valid ← sizes_in sizes

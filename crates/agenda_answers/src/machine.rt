@@ -6,7 +6,7 @@ ghost use Rattle.std.specs.Prelude.{◌≡◌, false, IfOk, IsTrue, Some, option
 ghost use Rattle.agenda_answers.specs.Host.{host_of};
 ghost use Rattle.agenda_answers.specs.Machine.{AnswersMachine, answers_said, directory_if, files_if, found_in, in_words};
 ghost use Rattle.agenda_answers.specs.Machine.{errors_in, findings_rest, is_root, machine_below, machine_ends, machine_if, machine_of};
-ghost use Rattle.agenda_answers.specs.Machine.{is_stopped, kept_in, machine_zones, naming_limit, remark_with, rest_of, shows_findings, shows_jobs};
+ghost use Rattle.agenda_answers.specs.Machine.{is_stopped, kept_in, machine_zones, naming_limit, needs_files, remark_with, rest_of, shows_findings, shows_jobs};
 ghost use Rattle.agenda_machine.specs.JobFiles.{files_of_jobs};
 ghost use Rattle.agenda_sources.specs.Findings.{kept_jobs, sources_errors};
 ghost use Rattle.agenda_machine.specs.Places.{paths_of};
@@ -25,7 +25,8 @@ use agenda_faults::status::DONE;
 use agenda_faults::{Failure, RunFault};
 use agenda_inputs::{Files, MOST_READ, MachineFiles, machine_clock, read_zones};
 use agenda_machine::{
-    LoadedMachine, dir_of, files_of_jobs, located, paths_of, root_of, sources_of, with_loaded,
+    LoadedMachine, dir_of, files_of_jobs, located, paths_of, root_of, sources_of, with_idle,
+    with_loaded,
 };
 use agenda_policy::judged;
 use agenda_sources::{
@@ -91,7 +92,7 @@ fn make_answer<'a, R: Threads + Wait + Sync, F: Files, T: Complete>(
                 time: host.time,
                 frame: host.frame,
             };
-            let loaded = with_loaded(alloc, machine)?;
+            let loaded = with_loaded(alloc, &below, jobs.idle, machine)?;
             jobs_answer(rt, alloc, files, &host, dir, jobs, loaded)
         }
         MachineQuestion::Sources { json } => Ok(MachineAnswer {
@@ -108,10 +109,13 @@ fn make_answer<'a, R: Threads + Wait + Sync, F: Files, T: Complete>(
                 time: host.time,
                 frame: host.frame,
             };
-            let loaded = with_loaded(alloc, machine)?;
+            let loaded = with_loaded(alloc, &below, describe.idle, machine)?;
             descriptions_answer(alloc, files, &host, dir, describe, loaded)
         }
-        MachineQuestion::Check(check) => check_answer(alloc, files, &below, dir, check, machine),
+        MachineQuestion::Check(check) => {
+            let machine = with_idle(alloc, &below, machine)?;
+            check_answer(alloc, files, &below, dir, check, machine)
+        }
     }
 }
 
@@ -181,7 +185,8 @@ fn check_answer<'a, F: Files, T: Tree>(
     check: &MachineCheck,
     machine: Machine,
 ) -> Result<MachineAnswer<'a>, Failure>
-    ensures { shows_findings (F.held files.old) (record { is_known = T.is_known; held = T.held tree.now }) dir.now check.now machine result }
+    ensures { shows_findings (F.held files.old) (record { is_known = T.is_known; held = T.held tree.now }) dir.now check.now machine
+        machine.unplanned.items result }
 {
     let clock = machine_clock(alloc, files, tree, root_of(dir), &check.zone)?;
     let sources = sources_of(alloc, machine.sources.as_slice())?;
@@ -289,24 +294,35 @@ fn jobs_answer<'a, R: Threads + Wait + Sync, F: Files, T: Tree>(
         let printout = Printout::Stopped(skipped);
         return Ok(MachineAnswer { site, printout });
     }
-    let (outcome, remark) = planned(rt, alloc, &site, skipped, kept, &goal, form)?;
+    let output = Output { goal: &goal, form };
+    let (outcome, remark) = planned(rt, alloc, host.tree, &site, skipped, kept, output)?;
     let printout = Printout::Jobs(outcome, remark);
     Ok(MachineAnswer { site, printout })
 }
 
-// Makes the answer for the jobs of a machine that are left, in a form, with what is said about it.
-fn planned<R: Threads + Wait + Sync>(
+// What is made of jobs, and in which form.
+#[derive(Drop)]
+struct Output<'a> {
+    goal: &'a Goal,
+    form: Form,
+}
+
+// Makes the answer for the jobs of a machine that are left, with what is said about it. The machine has this tree.
+fn planned<R: Threads + Wait + Sync, T: Tree>(
     rt: &R,
     alloc: Global,
+    tree: &T,
     site: &Site<'_>,
     skipped: Skipped,
     kept: Jobs,
-    goal: &Goal,
-    form: Form,
+    output: Output<'_>,
 ) -> Result<(Outcome, Option<Text>), Failure>
-    ensures { answers_said site.now.dir.now site.now.machine skipped.paths skipped.errors.items form goal.now kept result }
+    ensures { answers_said (record { is_known = T.is_known; held = T.held tree.now }) site.now.dir.now site.now.machine skipped.paths
+        skipped.errors.items output.entry.form output.entry.goal.now kept result }
 {
-    let files = files_if(alloc, site, &kept, &form)?;
+    let Output { goal, form } = output;
+    let needed = needs_files(&form, goal);
+    let files = files_if(alloc, tree, site, &kept, needed)?;
     let made = prepare_remarked(rt, alloc, kept, goal, form, files.as_deref());
     let made = settled(made)?;
     let (answer, said) = parted(made);
@@ -344,24 +360,35 @@ fn remark_of(
     }
 }
 
-// Returns the files of jobs, if an answer in this form has them: its lines in JSON do.
-fn files_if(
+// Returns whether an answer in this form has the files of its jobs, or their scripts: a table, lines in JSON, and the list of
+// scripts.
+fn needs_files(form: &Form, goal: &Goal) -> bool
+    ensures { result ≡ needs_files form.now goal.now }
+{
+    match (form, goal) {
+        (Form::Table(_), _) => true,
+        (Form::Lines(_), Goal::Scripts { .. }) => true,
+        (Form::Lines(format), _) => format.json,
+    }
+}
+
+// Returns the files of jobs with their scripts, if they are needed.
+fn files_if<T: Tree>(
     alloc: Global,
+    tree: &T,
     site: &Site<'_>,
     kept: &Jobs,
-    form: &Form,
+    needed: bool,
 ) -> Result<Option<Vec<JobFile>>, AllocError>
-    ensures { IfOk result (λ files. option_map (λ files. files.items) files
-        ≡ files_if form.now (files_of_jobs (root_of site.now.dir.now) site.now.machine.sources.items kept.now)) }
+    ensures { T.is_known ≡ true → IfOk result (λ files. option_map (λ files. files.items) files
+        ≡ files_if needed (files_of_jobs (T.held tree.now) (root_of site.now.dir.now) site.now.machine.sources.items kept.now)) }
 {
-    match form {
-        Form::Lines(format) if format.json => {
-            let sources = site.machine.sources.as_slice();
-            let files = files_of_jobs(alloc, root_of(site.dir), sources, kept)?;
-            Ok(Some(files))
-        }
-        _ => Ok(None),
+    if !needed {
+        return Ok(None);
     }
+    let sources = site.machine.sources.as_slice();
+    let files = files_of_jobs(alloc, tree, root_of(site.dir), sources, kept)?;
+    Ok(Some(files))
 }
 
 // Returns an answer. If it has too many starts for a plan, the error names the limit.
@@ -375,7 +402,7 @@ fn in_words(
         Goal::Plan { planning, .. } => naming_limit(answer, planning.sizes.limit),
         Goal::Quiet { planning, .. } => naming_limit(answer, planning.sizes.limit),
         Goal::Changes { planning, .. } => naming_limit(answer, planning.sizes.limit),
-        Goal::Upcoming { .. } => answer,
+        Goal::Upcoming { .. } | Goal::Scripts { .. } => answer,
     }
 }
 

@@ -43,6 +43,10 @@ pub(crate) fn goal_at<F: Files>(
             let after = since_at(alloc, TimeOption::After, after, now, clock)?;
             Ok(Goal::Upcoming { after, delays })
         }
+        MachineGoal::Scripts { after } => {
+            let after = since_at(alloc, TimeOption::After, after, now, clock)?;
+            Ok(Goal::Scripts { after })
+        }
         MachineGoal::Plan { span, sizes, view } => {
             let span = span_at(alloc, span, now, clock)?;
             let sizes = sizes_in(*sizes)?;

@@ -1,12 +1,12 @@
--- The files of jobs, one after the other: for the loop of `files_of_jobs`.
+-- The files of jobs, one after the other: for the loop of `files_among`.
 use Rattle.std.proofs.Common.{◌≡◌, ℕ, zero, suc, ◌+◌, ◌<◌, List, [], ◌∷◌, ◌++◌, length, map, take, None, Some, ap, sym, ◌∙◌, arith}
 use Rattle.std.specs.Prelude.{slice_get}
 use Rattle.std.proofs.lemmas.List.{take_more, map-append}
 use Rattle.std.proofs.lemmas.Option.{slice_get_within, get_or_from_slice_get}
-use Rattle.plan_machine.specs.Source.{SourceParts}
+use Rattle.agenda_machine.specs.Scripts.{SourceScripts}
 use Rattle.plan_rules.specs.Job.{JobParts}
 use Rattle.plan_write.specs.declared.JobFile.{JobFile}
-use Rattle.agenda_machine.specs.JobFiles.{file_among, files_of_jobs}
+use Rattle.agenda_machine.specs.JobFiles.{file_among, files_among}
 
 -- there is a job at each place of the list
 pub job_there : (jobs : List JobParts) (n : ℕ) → None ≡ slice_get jobs n → n < length jobs → ⊥
@@ -16,9 +16,9 @@ job_there (job ∷ jobs) (suc n) none inside = job_there jobs n none (omega arit
 
 -- one more job
 pub files_more :
-    (root : List ℕ) (sources : List SourceParts) (jobs : List JobParts) (n : ℕ) (job : JobParts) (files : List JobFile)
-    (file : JobFile) → files ≡ files_of_jobs root sources (take n jobs) → Some job ≡ slice_get jobs n →
-    file ≡ file_among root sources job.name → files ++ file ∷ [] ≡ files_of_jobs root sources (take (n + 1) jobs)
+    (root : List ℕ) (sources : List SourceScripts) (jobs : List JobParts) (n : ℕ) (job : JobParts) (files : List JobFile)
+    (file : JobFile) → files ≡ files_among root sources (take n jobs) → Some job ≡ slice_get jobs n →
+    file ≡ file_among root sources job.name → files ++ file ∷ [] ≡ files_among root sources (take (n + 1) jobs)
 files_more root sources jobs n job files file so_far is own =
     let f = λ (one : JobParts). file_among root sources one.name in
     let here = get_or_from_slice_get jobs n job job (sym is) in

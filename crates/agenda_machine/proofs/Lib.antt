@@ -5,5 +5,6 @@ pub mod LineLemmas
 pub mod PlaceLaws
 pub mod PlaceLemmas
 pub mod RootLemmas
+pub mod ScriptLemmas
 pub mod ShownLemmas
 pub mod CountLemmas

@@ -1,4 +1,4 @@
--- The files that the jobs of a machine come from, and their lines there, by the names of the jobs (agenda).
+-- The files that the jobs of a machine come from, their lines there, by the names of the jobs, and the scripts of these lines (agenda).
 use Rattle.std.specs.Prelude.{◌≡◌, ℕ, ◌==◌, ◌&&◌, ◌<◌, ◌^◌, nat_lt, Bool, false, if◌then◌else◌, List, [], ◌∷◌, length, map, codes, Option, None, Some, slice_get}
 use Rattle.std.specs.Char.{is_ascii_digit}
 use Rattle.std.specs.Fmt.{decimal}
@@ -12,7 +12,9 @@ use Rattle.plan_rules.specs.Job.{JobParts}
 use Rattle.plan_rules.specs.declared.SourceKind.{SourceKind}
 use Rattle.plan_rules.specs.declared.SourceKind.TheVariants.{Crontab, System, CronD, Spool, Timer}
 use Rattle.plan_write.specs.declared.JobFile.{JobFile}
+use Rattle.plan_tree.specs.Tree.{Held}
 use Rattle.agenda_machine.specs.Paths.{below}
+use Rattle.agenda_machine.specs.Scripts.{SourceScripts, scripts_of, with_scripts}
 
 -- ---- the line
 
@@ -47,27 +49,27 @@ LinesAreInNames =
 
 -- ---- the file
 
--- the first file of a source, with the line of a job. The first file of a timer is its unit file
-abbrev pub first_file : (root : List ℕ) → Option FileBytes → (line : Option (List ℕ)) → Option JobFile
-first_file root None line = None
-first_file root (Some file) line = Some (record { path = below root file.path; line = line })
+-- the first file of a source, with the line of a job and its scripts. The first file of a timer is its unit file
+abbrev pub first_file : (root : List ℕ) → Option FileBytes → (line : Option (List ℕ)) → (scripts : List (List ℕ)) → Option JobFile
+first_file root None line scripts = None
+first_file root (Some file) line scripts = Some (record { path = below root file.path; line = line; scripts = scripts })
 
-abbrev pub file_with : (root : List ℕ) → SourceParts → (line : Option (List ℕ)) → Option JobFile
-file_with root source line = first_file root (slice_get (files_of source.parts) 0) line
+abbrev pub file_with : (root : List ℕ) → SourceScripts → (line : Option (List ℕ)) → Option JobFile
+file_with root known line = first_file root (slice_get (files_of known.source.parts) 0) line (scripts_of known.lines line)
 
 -- the file of a crontab's job, if it has a line in this crontab
-abbrev pub file_at : (root : List ℕ) → SourceParts → (line : Option (List ℕ)) → Option JobFile
-file_at root source None = None
-file_at root source (Some line) = file_with root source (Some line)
+abbrev pub file_at : (root : List ℕ) → SourceScripts → (line : Option (List ℕ)) → Option JobFile
+file_at root known None = None
+file_at root known (Some line) = file_with root known (Some line)
 
 -- the file of a job with this name, if the job is one of this source. The job of a timer has the timer's name, and no line, since the
 -- settings of a timer may be in several lines and files
-abbrev pub file_by : (root : List ℕ) → SourceParts → SourceKind → (job : List ℕ) → Option JobFile
-file_by root source Timer job = if bytes_eq source.name job then file_with root source None else None
-file_by root source kind job = file_at root source (line_by (label_of kind source.name) (cut_name job))
+abbrev pub file_by : (root : List ℕ) → SourceScripts → SourceKind → (job : List ℕ) → Option JobFile
+file_by root known Timer job = if bytes_eq known.source.name job then file_with root known None else None
+file_by root known kind job = file_at root known (line_by (label_of kind known.source.name) (cut_name job))
 
-abbrev pub file_in : (root : List ℕ) → SourceParts → (job : List ℕ) → Option JobFile
-file_in root source job = file_by root source source.kind job
+abbrev pub file_in : (root : List ℕ) → SourceScripts → (job : List ℕ) → Option JobFile
+file_in root known job = file_by root known known.source.kind job
 
 -- ---- all jobs
 
@@ -78,10 +80,14 @@ or_file (Some file) other = file
 
 -- the file of a job with this name, which is one of these sources. No two crontabs have one label (plan_machine, `IsEachNameOnce`), so
 -- it is the only source that has the job
-abbrev pub file_among : (root : List ℕ) → List SourceParts → (job : List ℕ) → JobFile
-file_among root [] job = record { path = []; line = None }
-file_among root (source ∷ more) job = or_file (file_in root source job) (file_among root more job)
+abbrev pub file_among : (root : List ℕ) → List SourceScripts → (job : List ℕ) → JobFile
+file_among root [] job = record { path = []; line = None; scripts = [] }
+file_among root (known ∷ more) job = or_file (file_in root known job) (file_among root more job)
 
--- the files of jobs
-abbrev pub files_of_jobs : (root : List ℕ) → List SourceParts → List JobParts → List JobFile
-files_of_jobs root sources jobs = map (λ job. file_among root sources job.name) jobs
+-- the files of jobs of these sources
+abbrev pub files_among : (root : List ℕ) → List SourceScripts → List JobParts → List JobFile
+files_among root sources jobs = map (λ job. file_among root sources job.name) jobs
+
+-- the files of the jobs of a machine's sources
+abbrev pub files_of_jobs : Held → (root : List ℕ) → List SourceParts → List JobParts → List JobFile
+files_of_jobs held root sources jobs = files_among root (map (with_scripts held) sources) jobs

@@ -2,7 +2,9 @@ pub mod Paths
 pub mod Listing
 pub mod Reports
 pub mod Monotonic
+pub mod Idle
 pub mod Loaded
+pub mod Scripts
 pub mod JobFiles
 pub mod Places
 pub mod Root

@@ -1,8 +1,9 @@
--- The sources of a machine as a plan reads them: only what its daemons load (agenda).
-use Rattle.std.specs.Prelude.{ℕ, List, [], ◌∷◌, ◌++◌, Option, None, Some}
-use Rattle.std.specs.List.{cons_option}
+-- The sources of a machine as a plan reads them: only what its daemons load, and without its idle jobs (agenda).
+use Rattle.std.specs.Prelude.{ℕ, Bool, true, false, List, [], ◌∷◌, ◌++◌, map, Option, None, Some}
+use Rattle.std.specs.List.{cons_option, flat_map}
 use Rattle.std.specs.Option.{option_map}
 use Rattle.agenda_sources.specs.declared.Source.{Source}
+use Rattle.agenda_machine.specs.Idle.{idle_reports, kept_text}
 use Rattle.agenda_machine.specs.Monotonic.{with_monotonic}
 use Rattle.plan_loads.specs.Loading.{loading_of}
 use Rattle.plan_loads.specs.Texts.{KnownLoading}
@@ -10,6 +11,9 @@ use Rattle.plan_machine.specs.Source.{SourceParts}
 use Rattle.plan_machine.specs.declared.CronDaemon.{CronDaemon}
 use Rattle.plan_machine.specs.declared.NotPlanned.{NotPlanned}
 use Rattle.plan_machine.specs.declared.machine.Machine.{Machine}
+use Rattle.plan_tree.specs.Tree.{Held}
+
+-- ---- what is loaded
 
 -- a source with the text that is loaded of it, if anything is
 abbrev pub loaded_source : SourceParts → (text : Option (List ℕ)) → Option Source
@@ -27,7 +31,7 @@ unloaded_from unplanned daemon [] = []
 unloaded_from unplanned daemon (source ∷ more) =
     (loading_of unplanned daemon source.kind source.parts).reports ++ unloaded_from unplanned daemon more
 
--- the sources of a machine as a plan reads them
+-- the sources of a machine with what is loaded of them
 abbrev pub loaded_sources : Machine → List Source
 loaded_sources machine = loaded_from machine.unplanned.items machine.cron_daemon machine.sources.items
 
@@ -37,3 +41,28 @@ abbrev pub unplanned_jobs : Machine → List NotPlanned
 unplanned_jobs machine =
     with_monotonic machine.sources.items machine.unplanned.items
     ++ unloaded_from machine.unplanned.items machine.cron_daemon machine.sources.items
+
+-- ---- idle jobs
+
+-- a source that is loaded, without its idle jobs, unless these are planned
+abbrev pub kept_source : Held → (idle : Bool) → Source → Source
+kept_source held idle source = record source { bytes = (kept_text held idle source.kind source.bytes).text }
+
+-- the sources of a machine as a plan reads them
+abbrev pub planned_sources : Held → (idle : Bool) → Machine → List Source
+planned_sources held true machine = loaded_sources machine
+planned_sources held false machine = map (kept_source held false) (loaded_sources machine)
+
+-- the idle jobs that aren't planned of a source, where these things aren't planned already
+abbrev pub idle_of : Held → (idle : Bool) → List NotPlanned → CronDaemon → SourceParts → List NotPlanned
+idle_of held idle unplanned daemon source =
+    idle_reports held idle source (loading_of unplanned daemon source.kind source.parts).text
+
+-- the idle jobs of a machine, source by source
+abbrev pub idle_jobs : Held → Machine → List NotPlanned
+idle_jobs held machine = flat_map (idle_of held false machine.unplanned.items machine.cron_daemon) machine.sources.items
+
+-- what isn't planned on a machine by a question about jobs
+abbrev pub unplanned_with_idle : Held → (idle : Bool) → Machine → List NotPlanned
+unplanned_with_idle held true machine = unplanned_jobs machine
+unplanned_with_idle held false machine = unplanned_jobs machine ++ idle_jobs held machine

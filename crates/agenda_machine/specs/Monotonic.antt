@@ -6,7 +6,7 @@ use Rattle.plan_check.specs.Timers.{is_only_monotonic}
 use Rattle.plan_machine.specs.Source.{SourceParts}
 use Rattle.plan_machine.specs.declared.NotPlanned.{NotPlanned}
 use Rattle.plan_machine.specs.declared.Unplanned.{Unplanned}
-use Rattle.plan_machine.specs.declared.Unplanned.TheVariants.{Anacron, Monotonic, AtJobs, UserTimers, UnitMissing, UnitMasked, UnitIdle, NotLoaded, LineNotLoaded}
+use Rattle.plan_machine.specs.declared.Unplanned.TheVariants.{Anacron, Monotonic, AtJobs, UserTimers, UnitMissing, UnitMasked, UnitIdle, NotLoaded, LineNotLoaded, Idle}
 use Rattle.plan_parts.specs.Files.{FileBytes}
 use Rattle.plan_parts.specs.Parts.{files_of, text_of}
 use Rattle.plan_rules.specs.TimerEntries.{timer_lines}
@@ -56,6 +56,7 @@ is_first AtJobs = false
 is_first UserTimers = false
 is_first (NotLoaded why) = true
 is_first (LineNotLoaded line why) = true
+is_first (Idle line why) = true
 
 abbrev pub comes_before : NotPlanned → Bool
 comes_before one = is_first one.why

@@ -5,7 +5,7 @@ use Rattle.std.specs.List.{flat_map, list_any}
 use Rattle.plan_machine.specs.declared.NotPlanned.{NotPlanned}
 use Rattle.plan_machine.specs.declared.Skipped.{Skipped}
 use Rattle.plan_machine.specs.declared.Unplanned.{Unplanned}
-use Rattle.plan_machine.specs.declared.Unplanned.TheVariants.{LineNotLoaded}
+use Rattle.plan_machine.specs.declared.Unplanned.TheVariants.{Idle, LineNotLoaded}
 use Rattle.plan_machine.specs.declared.Why.{Why}
 use Rattle.plan_machine.specs.declared.Why.TheVariants.{NotReadable, NotUtf8}
 use Rattle.plan_timers.specs.Reports.{unplanned_text, why_text}
@@ -23,16 +23,22 @@ skipped_line root one =
 -- the number of a line that isn't planned
 abbrev pub line_mark : Unplanned → List ℕ
 line_mark (LineNotLoaded line why) = codes ":" ++ decimal line
+line_mark (Idle line why) = codes ":" ++ decimal line
 line_mark other = []
 
 -- the path of something that isn't planned, and its line
 abbrev pub place_of : (root : List ℕ) → NotPlanned → List ℕ
 place_of root one = shown (below root one.path) ++ line_mark one.why
 
+-- what the line of something that isn't planned begins with; an idle job starts, but runs nothing that has an effect
+abbrev pub heading : Unplanned → List ℕ
+heading (Idle line why) = codes "agenda: idle: "
+heading other = codes "agenda: not planned: "
+
 -- the line of something that isn't planned
 unfoldable pub unplanned_line : (root : List ℕ) → NotPlanned → List ℕ
 unplanned_line root one =
-    codes "agenda: not planned: " ++ (place_of root one ++ (codes ": " ++ (shown (unplanned_text one.why) ++ codes "\n")))
+    heading one.why ++ (place_of root one ++ (codes ": " ++ (shown (unplanned_text one.why) ++ codes "\n")))
 
 -- the line that there is no cron daemon
 abbrev pub no_daemon : (is_lacking : Bool) → (dir : List ℕ) → List ℕ

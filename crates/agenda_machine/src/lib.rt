@@ -2,11 +2,13 @@
 //! of `check` are, and its jobs.
 //!
 //! The machine comes from plan_machine. `paths` says how people are shown paths below its root. Read `listing` first, then
-//! `reports`. `monotonic` finds the timers that start by monotonic settings alone,
-//! and `loaded` what the daemons load. `places` passes the sources on to `check`,
-//! and finds the file of each finding; `job_files` finds that of each job. `root` has the path of the machine's root.
+//! `reports`. `monotonic` finds the timers that start by monotonic settings alone, `loaded` what the daemons load, and
+//! `idle` the jobs in it that run nothing that has an effect. `places` passes the sources on to `check`, and finds the
+//! file of each finding; `job_files` finds that of each job, with the scripts that `scripts` finds. `root` has the path of
+//! the machine's root.
 #![tactic(auto)]
 
+mod idle;
 mod job_files;
 mod listing;
 mod loaded;
@@ -15,10 +17,11 @@ mod paths;
 mod places;
 mod reports;
 mod root;
+mod scripts;
 
 pub use job_files::{files_of_jobs, lines_are_in_names};
 pub use listing::write_sources;
-pub use loaded::{LoadedMachine, with_loaded};
+pub use loaded::{LoadedMachine, with_idle, with_loaded};
 pub use monotonic::with_monotonic;
 pub use places::{located, paths_of, places_have_paths, sources_of};
 pub use reports::{Reports, is_incomplete, write_reports};

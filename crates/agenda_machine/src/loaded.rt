@@ -1,16 +1,19 @@
-//! The sources of a machine as a plan reads them: only what its daemons load.
+//! The sources of a machine as a plan reads them: only what its daemons load, and without its idle jobs.
 
-ghost use Rattle.std.specs.Prelude.{◌≡◌, ◌++◌, [], IfOk, OnOk, map};
-ghost use Rattle.std.specs.List.{cons_option};
+ghost use Rattle.std.specs.Prelude.{◌≡◌, ◌++◌, [], true, false, IfOk, OnOk, map};
+ghost use Rattle.std.specs.List.{cons_option, flat_map};
 ghost use Rattle.std.specs.Option.{option_map};
-ghost use Rattle.agenda_machine.specs.Loaded.{loaded_from, loaded_source, loaded_sources, unloaded_from, unplanned_jobs};
+ghost use Rattle.agenda_machine.specs.Idle.{idle_reports};
+ghost use Rattle.agenda_machine.specs.Loaded.{idle_jobs, idle_of, kept_source, loaded_from, loaded_source, planned_sources, unloaded_from, unplanned_with_idle};
 ghost use Rattle.plan_loads.specs.Loading.{loading_of};
 
+use crate::idle::{Kept, kept_of};
 use crate::monotonic::with_monotonic;
 use agenda_sources::{Bytes, Source, Sources};
 use plan_loads::{Loading, loading_of};
 use plan_machine::{CronDaemon, Machine, MachineSource, NotPlanned};
 use plan_texts::Text;
+use plan_tree::Tree;
 use std::alloc::{AllocError, Global};
 
 /// A machine, and its sources as a plan reads them.
@@ -18,42 +21,89 @@ use std::alloc::{AllocError, Global};
 pub struct LoadedMachine {
     /// The machine, with all that isn't planned on it.
     pub machine: Machine,
-    /// The sources of which its daemons load anything, with the texts that they load.
+    /// The sources of which its daemons load anything, with the texts that a plan reads of them.
     pub planned: Sources,
 }
 
-// What the daemons of a machine load of its sources.
+// What the daemons of a machine load of its sources, as a plan reads it.
 #[derive(Drop)]
 struct LoadedSources {
     // The sources of which they load anything.
     sources: Vec<Source>,
     // What isn't planned of the others.
     reports: Vec<NotPlanned>,
+    // The idle jobs that aren't planned.
+    jobs: Vec<NotPlanned>,
+}
+
+// What is loaded of a source, as a plan reads it.
+#[derive(Drop)]
+struct LoadedSource {
+    // The source, if anything is loaded of it.
+    source: Option<Source>,
+    // The idle jobs that aren't planned.
+    jobs: Vec<NotPlanned>,
 }
 
 /// Returns the sources of a machine as a plan reads them, and the machine with what isn't planned of them: timers that start by
-/// monotonic settings alone, as `with_monotonic` finds them, and what its daemons don't load, as `loading_of` of plan_loads says.
+/// monotonic settings alone, as `with_monotonic` finds them, what its daemons don't load, as `loading_of` of plan_loads says, and
+/// idle jobs, as `active_crontab` of plan_runs finds them. With `idle` these are planned, and not reported.
 ///
 /// # Errors
 ///
 /// `AllocError` if an allocation fails.
-pub fn with_loaded(alloc: Global, machine: Machine) -> Result<LoadedMachine, AllocError>
-    ensures planned { IfOk result (λ loaded. loaded.planned ≡ loaded_sources machine) }
-    ensures unplanned { IfOk result (λ loaded. loaded.machine.unplanned.items ≡ unplanned_jobs machine) }
+#[tactic(auto, using(crate::proofs::LoadedLemmas::planned_are, crate::proofs::LoadedLemmas::unplanned_are))]
+pub fn with_loaded<T: Tree>(
+    alloc: Global,
+    tree: &T,
+    idle: bool,
+    machine: Machine,
+) -> Result<LoadedMachine, AllocError>
+    ensures planned { T.is_known ≡ true → IfOk result (λ loaded. loaded.planned ≡ planned_sources (T.held tree.now) idle machine) }
+    ensures unplanned { T.is_known ≡ true → IfOk result (λ loaded.
+        loaded.machine.unplanned.items ≡ unplanned_with_idle (T.held tree.now) idle machine) }
     ensures others { IfOk result (λ loaded. loaded.machine ≡ record machine { unplanned = loaded.machine.unplanned }) }
 {
-    let LoadedSources { sources, reports } = loaded_from(
+    let LoadedSources {
+        sources,
+        reports,
+        jobs,
+    } = loaded_from(
         alloc,
+        tree,
+        idle,
         machine.unplanned.as_slice(),
         machine.cron_daemon,
         machine.sources.as_slice(),
     )?;
     let machine = with_monotonic(alloc, machine)?;
     let machine = with_reports(machine, reports)?;
+    let machine = with_reports(machine, jobs)?;
     Ok(LoadedMachine {
         machine,
         planned: Sources::new(sources),
     })
+}
+
+/// Returns a machine with the idle jobs of its sources among what isn't planned, at the end.
+///
+/// # Errors
+///
+/// `AllocError` if an allocation fails.
+pub fn with_idle<T: Tree>(alloc: Global, tree: &T, machine: Machine) -> Result<Machine, AllocError>
+    ensures unplanned { T.is_known ≡ true → IfOk result (λ all.
+        all.unplanned.items ≡ machine.unplanned.items ++ idle_jobs (T.held tree.now) machine) }
+    ensures others { IfOk result (λ all. all ≡ record machine { unplanned = all.unplanned }) }
+{
+    let loaded = loaded_from(
+        alloc,
+        tree,
+        false,
+        machine.unplanned.as_slice(),
+        machine.cron_daemon,
+        machine.sources.as_slice(),
+    )?;
+    with_reports(machine, loaded.jobs)
 }
 
 // Returns a machine with more that isn't planned, at the end.
@@ -79,48 +129,79 @@ fn with_reports(machine: Machine, reports: Vec<NotPlanned>) -> Result<Machine, A
     })
 }
 
-// Returns what is loaded of sources.
-fn loaded_from(
+// Returns what is loaded of sources, as a plan reads it.
+fn loaded_from<T: Tree>(
     alloc: Global,
+    tree: &T,
+    idle: bool,
     unplanned: &[NotPlanned],
     daemon: CronDaemon,
     sources: &[MachineSource],
 ) -> Result<LoadedSources, AllocError>
-    ensures sources { IfOk result (λ loaded. loaded.sources.items ≡ loaded_from unplanned.now daemon sources.now) }
+    ensures sources { T.is_known ≡ true → IfOk result (λ loaded.
+        loaded.sources.items ≡ map (kept_source (T.held tree.now) idle) (loaded_from unplanned.now daemon sources.now)) }
     ensures reports { IfOk result (λ loaded. loaded.reports.items ≡ unloaded_from unplanned.now daemon sources.now) }
+    ensures jobs { T.is_known ≡ true → IfOk result (λ loaded.
+        loaded.jobs.items ≡ flat_map (idle_of (T.held tree.now) idle unplanned.now daemon) sources.now) }
 {
     let mut loaded = Vec::with_capacity(alloc, sources.len())?;
     let mut reports = Vec::new(alloc);
+    let mut jobs = Vec::new(alloc);
     for source in sources {
-        let loading = loading_of(alloc, unplanned, daemon, source.kind(), source.parts())?;
-        add(alloc, &mut loaded, &mut reports, source, loading)?;
+        let Loading {
+            text,
+            reports: mut unloaded,
+        } = loading_of(alloc, unplanned, daemon, source.kind(), source.parts())?;
+        let mut one = loaded_source(alloc, tree, idle, source, text)?;
+        reports.append(&mut unloaded)?;
+        jobs.append(&mut one.jobs)?;
+        add(&mut loaded, one.source)?;
     }
     Ok(LoadedSources {
         sources: loaded,
         reports,
+        jobs,
     })
 }
 
-// Adds what is loaded of a source.
-fn add(
-    alloc: Global,
-    loaded: &mut Vec<Source>,
-    reports: &mut Vec<NotPlanned>,
-    source: &MachineSource,
-    loading: Loading,
-) -> Result<(), AllocError>
-    ensures loaded { OnOk result (loaded.new.items ≡ loaded.old.items ++ cons_option (loaded_source source.now loading.text) []) }
-    ensures reports { OnOk result (reports.new.items ≡ reports.old.items ++ loading.reports) }
+// Adds a source, if there is one.
+fn add(loaded: &mut Vec<Source>, source: Option<Source>) -> Result<(), AllocError>
+    ensures { OnOk result (loaded.new.items ≡ loaded.old.items ++ cons_option source []) }
 {
-    let Loading {
-        text,
-        reports: mut more,
-    } = loading;
-    reports.append(&mut more)?;
-    if let Some(text) = text {
-        loaded.push(source_with(alloc, source, text)?)?;
+    if let Some(source) = source {
+        loaded.push(source)?;
     }
     Ok(())
+}
+
+// Returns what is loaded of a source of which this text is loaded, if anything is.
+fn loaded_source<T: Tree>(
+    alloc: Global,
+    tree: &T,
+    idle: bool,
+    source: &MachineSource,
+    text: Option<Vec<u8>>,
+) -> Result<LoadedSource, AllocError>
+    ensures source { T.is_known ≡ true → IfOk result (λ one.
+        one.source ≡ option_map (kept_source (T.held tree.now) idle)
+        (loaded_source source.now (option_map (λ text. text.items) text))) }
+    ensures jobs { T.is_known ≡ true → IfOk result (λ one.
+        one.jobs.items ≡ idle_reports (T.held tree.now) idle source.now (option_map (λ text. text.items) text)) }
+{
+    match text {
+        None => Ok(LoadedSource {
+            source: None,
+            jobs: Vec::new(alloc),
+        }),
+        Some(text) => {
+            let Kept { text, reports } = kept_of(alloc, tree, idle, source, text)?;
+            let source = source_with(alloc, source, text)?;
+            Ok(LoadedSource {
+                source: Some(source),
+                jobs: reports,
+            })
+        }
+    }
 }
 
 // Returns a source with a text.

@@ -85,7 +85,8 @@ fn comes_before(one: &NotPlanned) -> bool
         | Unplanned::UnitMasked(_)
         | Unplanned::UnitIdle(_)
         | Unplanned::NotLoaded(_)
-        | Unplanned::LineNotLoaded(..) => true,
+        | Unplanned::LineNotLoaded(..)
+        | Unplanned::Idle(..) => true,
         Unplanned::Monotonic | Unplanned::AtJobs | Unplanned::UserTimers => false,
     }
 }

@@ -4,7 +4,7 @@ ghost use Rattle.std.specs.Prelude.{◌≡◌, ◌++◌, false, IsTrue, Ok, OnOk
 ghost use Rattle.std.specs.List.{flat_map, list_any};
 ghost use Rattle.plan_streams.specs.Stream.{Puts};
 ghost use Rattle.plan_streams.specs.Writer.{Takes};
-ghost use Rattle.agenda_machine.specs.Reports.{has_line, is_incomplete, is_unreadable, line_mark, no_daemon, no_zone, place_of, reports_text, skipped_line, unplanned_line};
+ghost use Rattle.agenda_machine.specs.Reports.{has_line, heading, is_incomplete, is_unreadable, line_mark, no_daemon, no_zone, place_of, reports_text, skipped_line, unplanned_line};
 ghost use Rattle.plan_timers.specs.Reports.{unplanned_text, why_text};
 ghost use Rattle.plan_write.specs.Shown.{shown};
 ghost use Rattle.agenda_machine.specs.Paths.{below};
@@ -37,6 +37,7 @@ pub struct Reports<'a> {
 /// then that there is no cron daemon, and then that the zone is unknown.
 ///
 /// The lines are `agenda: skipped PATH: WHY`, `agenda: not planned: PATH: WHY` or `agenda: not planned: PATH:LINE: WHY`,
+/// `agenda: idle: PATH:LINE: WHY` for a job whose command runs nothing that has an effect,
 /// `agenda: no cron daemon below DIR: crontabs start nothing` and
 /// `agenda: the zone of DIR is unknown: rules are read as UTC`. Control characters in a path, a directory or the name of
 /// a unit are written as `\xNN` for each of their bytes, and a backslash as `\\`.
@@ -154,11 +155,21 @@ fn put_all_unplanned<S: Stream>(root: &str, unplanned: &[NotPlanned], lines: &mu
 fn put_unplanned<S: Stream>(root: &str, one: &NotPlanned, lines: &mut TextWriter<'_, S>)
     ensures { Takes S.holds S.takes_all lines.old lines.new (unplanned_line root.now one.now) }
 {
-    lines.put(b"agenda: not planned: ");
+    lines.put(heading(&one.why));
     put_place_of(root, one, lines);
     lines.put(b": ");
     put_why_unplanned(&one.why, lines);
     lines.put(b"\n");
+}
+
+// Returns what the line of something that isn't planned begins with.
+fn heading(why: &Unplanned) -> &[u8]
+    ensures { result.now ≡ heading why.now }
+{
+    match why {
+        Unplanned::Idle(..) => b"agenda: idle: ",
+        _ => b"agenda: not planned: ",
+    }
 }
 
 // Puts the path of something that isn't planned, and its line if it is one line.
@@ -173,7 +184,7 @@ fn put_place_of<S: Stream>(root: &str, one: &NotPlanned, lines: &mut TextWriter<
 fn put_line_mark<S: Stream>(why: &Unplanned, lines: &mut TextWriter<'_, S>)
     ensures { Takes S.holds S.takes_all lines.old lines.new (line_mark why.now) }
 {
-    if let Unplanned::LineNotLoaded(line, _) = why {
+    if let Unplanned::LineNotLoaded(line, _) | Unplanned::Idle(line, _) = why {
         lines.put_both(b":", Digits::new().format(*line).as_bytes());
     }
 }
@@ -202,6 +213,7 @@ fn put_why_unplanned<S: Stream>(why: &Unplanned, lines: &mut TextWriter<'_, S>)
         ),
         Unplanned::NotLoaded(why) => put_text(why, lines),
         Unplanned::LineNotLoaded(_, why) => put_text(why, lines),
+        Unplanned::Idle(_, why) => put_text(why, lines),
     }
 }
 

@@ -16,32 +16,34 @@ returns-in_err-files g c =
 
 pub returns-in_err-made : goal.returns-in_err-made
 returns-in_err-made g c =
-    let Answers = AnswersForm (option_map (λ f. f.items) c.in_ok-files.files) c.args.form in
+    let Answers = AnswersForm (option_map (λ f. f.items) c.in_ok-files.files) c.args.output.form in
     let made = c.prepare_remarked-made in
-    let bad = first_error c.args.goal.now (λ fault. made.result ≡ Err fault) made.ensures.at_once in
-    failed _ _ (goes _ c.in_ok-files.ensures
-    (settled_failure Answers c.args.goal.now (Ok c.args.kept) made.result _ bad c.in_err-made.ensures))
+    let bad = first_error c.args.output.goal.now (λ fault. made.result ≡ Err fault) made.ensures.at_once in
+    failed _ _ (goes _ (rw c.needs_files-needed.ensures at c.in_ok-files.ensures)
+    (settled_failure Answers c.args.output.goal.now (Ok c.args.kept) made.result _ bad c.in_err-made.ensures))
     c.from_residual-in_err-made.ensures.1
 
 pub returns-in_err-remark : goal.returns-in_err-remark
 returns-in_err-remark g c =
     let files = lent_files _ _ c.as_deref.ensures.cases in
-    let Answers = AnswersForm (option_map (λ f. f.items) c.in_ok-files.files) c.args.form in
+    let Answers = AnswersForm (option_map (λ f. f.items) c.in_ok-files.files) c.args.output.form in
     let made = c.prepare_remarked-made in
-    goes _ (goes _ c.in_ok-files.ensures (settled_parts Answers c.args.goal.now (Ok c.args.kept) made.result c.in_ok-made.made
+    goes _ (goes _ (rw c.needs_files-needed.ensures at c.in_ok-files.ensures)
+    (settled_parts Answers c.args.output.goal.now (Ok c.args.kept) made.result c.in_ok-made.made
     (rw files at made.ensures.answer) c.in_ok-made.ensures))
     (failed _ (Run NoMemory) refl c.from_residual-in_err-remark.ensures.1)
 
 pub returns : goal.returns
 returns g c =
     let files = lent_files _ _ c.as_deref.ensures.cases in
-    let Answers = AnswersForm (option_map (λ f. f.items) c.in_ok-files.files) c.args.form in
+    let Answers = AnswersForm (option_map (λ f. f.items) c.in_ok-files.files) c.args.output.form in
     let made = c.prepare_remarked-made in
-    let said = said_parts c.args.goal.now c.args.kept made.result c.in_ok-made.made made.ensures.remark c.in_ok-made.ensures in
-    let found = found_parts (finds_any c.args.goal.now c.args.kept) made.result c.in_ok-made.made made.ensures.finds c.in_ok-made.ensures in
-    goes _ (goes _ c.in_ok-files.ensures (settled_parts Answers c.args.goal.now (Ok c.args.kept) made.result c.in_ok-made.made
+    let said = said_parts c.args.output.goal.now c.args.kept made.result c.in_ok-made.made made.ensures.remark c.in_ok-made.ensures in
+    let found = found_parts (finds_any c.args.output.goal.now c.args.kept) made.result c.in_ok-made.made made.ensures.finds c.in_ok-made.ensures in
+    goes _ (goes _ (rw c.needs_files-needed.ensures at c.in_ok-files.ensures)
+    (settled_parts Answers c.args.output.goal.now (Ok c.args.kept) made.result c.in_ok-made.made
     (rw files at made.ensures.answer) c.in_ok-made.ensures))
-    (goes _ (remark_same c.args.goal.now _ _ _ _ _ _ _ c.in_ok-remark.ensures
+    (goes _ (remark_same c.args.output.goal.now _ _ _ _ _ _ _ c.in_ok-remark.ensures
     (rw (← c.parted-answer.ensures) c.is_ok.ensures.value)
     (rw c.parted-answer.ensures said)
     (rw (c.status_of-status.ensures, c.are_warnings.ensures, c.as_slice.ensures.value) refl))

@@ -16,6 +16,16 @@ returns-in_ok-after-in-Upcoming-clause-read g c =
     goes c.in_ok-now.now c.in_ok-now.ensures.value (rw c.in-Upcoming.is
     (goes c.in_ok-after-in-Upcoming.after c.in_ok-after-in-Upcoming.ensures.read refl))
 
+pub returns-in_err-after-in-Scripts-clause-read : goal.returns-in_err-after-in-Scripts-clause-read
+returns-in_err-after-in-Scripts-clause-read g c =
+    goes c.in_ok-now.now c.in_ok-now.ensures.value (rw c.in-Scripts.is
+    (failed _ _ c.in_err-after-in-Scripts.ensures.read c.from_residual-in_err-after-in-Scripts.ensures.1))
+
+pub returns-in_ok-after-in-Scripts-clause-read : goal.returns-in_ok-after-in-Scripts-clause-read
+returns-in_ok-after-in-Scripts-clause-read g c =
+    goes c.in_ok-now.now c.in_ok-now.ensures.value (rw c.in-Scripts.is
+    (goes c.in_ok-after-in-Scripts.after c.in_ok-after-in-Scripts.ensures.read refl))
+
 pub returns-in_err-span-in-Plan-clause-read : goal.returns-in_err-span-in-Plan-clause-read
 returns-in_err-span-in-Plan-clause-read g c =
     goes c.in_ok-now.now c.in_ok-now.ensures.value (rw c.in-Plan.is
