@@ -6,17 +6,18 @@
 . "$top/bin/lib/documents/rules.sh"
 
 documents_project=$work/documents
-documents_help=crates/agenda_options/src/command/help.rt
+documents_texts=crates/agenda_options/src/command
+documents_help=$documents_texts/help.rt
 
 # Makes a project of a few pages that keep all rules.
 documents_make() {
   rm -rf -- "$documents_project"
-  mkdir -p "$documents_project"/{bin,docs,examples,man,"${documents_help%/*}"}
+  mkdir -p "$documents_project"/{bin,docs,examples,man,"$documents_texts/machine"}
   cd "$documents_project" || return
   printf '# A page\n\nSome text, and a [link](docs/RULES.md#a-rule).\n' >README.md
   printf '# Rules\n\n## A rule\n\nSome text.\n' >docs/RULES.md
   printf '.Sh NAME\n.Nm agenda\n.Nd some text\n' >man/agenda.1
-  printf 'const NAME: &str = "Some text";\n' >"$documents_help"
+  printf 'const NAME: &str = "Some text";\n' | tee "$documents_texts/machine/texts.rt" >"$documents_help"
   printf 'say_usage() {\n  cat <<TEXT\nSome text.\nTEXT\n}\n' >bin/tool
 }
 

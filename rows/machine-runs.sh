@@ -122,7 +122,7 @@ runs_locked() {
       chmod 000 "$machine_folder/root/$path"
     done
     program_lines "$lines"
-    for words in plan 'plan --strict' upcoming quiet downtime week check sources; do
+    for words in plan 'plan --strict' upcoming quiet downtime week scripts check sources; do
       # shellcheck disable=SC2086
       program_run $words --root root
       cp -- "$work/out" "$work/out.wanted"
@@ -162,7 +162,7 @@ runs_streams() {
       program_run $words --root root
       program_compare "$words $to" /dev/null "$work/err.wanted" 3
     done
-    for words in 'next @daily' --help {plan,upcoming,quiet,downtime,clear,changes,week,check,sources,next}' --help'; do
+    for words in 'next @daily' --help {plan,upcoming,quiet,downtime,clear,changes,week,scripts,check,sources,next}' --help'; do
       # shellcheck disable=SC2086
       program_run $words
       program_compare "$words $to" /dev/null "$work/err.wanted" 3

@@ -83,6 +83,8 @@ Options:
                       times in UTC
       --except <JOB>  Ignore the job with this name, as it is printed;
                       may be given more than once
+      --idle          Include idle jobs, whose commands do nothing on the
+                      machine; otherwise they are only reported
       --delays        Show each start with the latest time at which it may
                       happen (RandomizedDelaySec= and AccuracySec=)
       --strict        Let an error in a file stop the answer, instead of
@@ -153,6 +155,8 @@ Options:
                       times in UTC
       --except <JOB>  Ignore the job with this name, as it is printed;
                       may be given more than once
+      --idle          Include idle jobs, whose commands do nothing on the
+                      machine; otherwise they are only reported
       --strict        Let an error in a file stop the answer, instead of
                       skipping what is invalid
       --table         Print a table, also if standard output isn't a terminal
@@ -193,6 +197,8 @@ Options:
                       times in UTC
       --except <JOB>  Ignore the job with this name, as it is printed;
                       may be given more than once
+      --idle          Include idle jobs, whose commands do nothing on the
+                      machine; otherwise they are only reported
       --strict        Let an error in a file stop the answer, instead of
                       skipping what is invalid
       --table         Print a table, also if standard output isn't a terminal
@@ -236,6 +242,8 @@ Options:
                       times in UTC
       --except <JOB>  Ignore the job with this name, as it is printed;
                       may be given more than once
+      --idle          Include idle jobs, whose commands do nothing on the
+                      machine; otherwise they are only reported
       --nominal       Don't count the delays of timers
       --strict        Let an error in a file stop the answer, instead of
                       skipping what is invalid
@@ -271,6 +279,8 @@ Options:
                       times in UTC
       --except <JOB>  Ignore the job with this name, as it is printed;
                       may be given more than once
+      --idle          Include idle jobs, whose commands do nothing on the
+                      machine; otherwise they are only reported
       --strict        Let an error in a file stop the answer, instead of
                       skipping what is invalid
       --table         Print a table, also if standard output isn't a terminal
@@ -316,6 +326,8 @@ Options:
                       times in UTC
       --except <JOB>  Ignore the job with this name, as it is printed;
                       may be given more than once
+      --idle          Include idle jobs, whose commands do nothing on the
+                      machine; otherwise they are only reported
       --strict        Let an error in a file stop the answer, instead of
                       skipping what is invalid
       --json          Print each line as a JSON object; agenda(1)
@@ -337,6 +349,44 @@ files. The exit status is 1 if there is such an error or if a file can't be read
 
 Example:
   agenda machine week --since 'mon' --until '+7d'
+END
+}
+
+machine_words_make_scripts_help() {
+  cat >"$machine_words_folder/scripts.text" <<'END'
+Lists the scripts that run-parts starts, with the next start of each
+
+Usage: agenda machine scripts [OPTIONS]
+
+Options:
+      --root <DIR>    Read the machine whose root directory is DIR [default: /]
+      --all           Include timers that aren't enabled
+      --after <TIME>  Only starts later than this time, such as
+                      'tomorrow 02:00', '2026-12-01 22:00' or +8h [default: now]
+      --zone <ZONE>   The time zone of the rules, such as Europe/Berlin,
+                      or the path of a TZif file; that of the machine
+                      if it isn't given
+      --utc           Read the rules in UTC, like --zone UTC, and print
+                      times in UTC
+      --except <JOB>  Ignore the job with this name, as it is printed;
+                      may be given more than once
+      --idle          Include idle jobs, whose commands do nothing on the
+                      machine; otherwise they are only reported
+      --strict        Let an error in a file stop the answer, instead of
+                      skipping what is invalid
+  -h, --help          Print help
+
+Prints a line for each script that a job of the machine starts by run-parts, such as those
+in /etc/cron.daily: the name of the job, the time of its next start and the path of the
+script, separated by tabs. A job starts its scripts one after the other, in the order of
+their lines. Times are those of the machine's clocks, with their offset from UTC. Standard
+error has a line for each file that is skipped or isn't planned, and the errors of the
+files. The exit status is 1 if there is such an error or if a file can't be read, otherwise
+0.
+
+Examples:
+  agenda machine scripts
+  agenda machine scripts --after 'tomorrow'
 END
 }
 
@@ -368,6 +418,8 @@ changes changes|--help
 changes changes|nothing|--root|none|-h
 week week|--help
 week week|--until|x|--zone|Nowhere/City|-h
+scripts scripts|--help
+scripts scripts|--root|none|--idle|-h
 END
 }
 
@@ -419,7 +471,7 @@ For more information, try '--help'.
 END
   for words in 'check|--zone|Europe/Berlin|--utc' 'check|--utc|--root=none|--zone=UTC' 'check|--utc|--zone=' '--utc|--zone=UTC' \
     'upcoming|--utc|--zone=UTC' 'plan|--utc|--zone=UTC' 'quiet|--utc|--zone=UTC' 'next|daily|--utc|--zone=UTC' 'describe|--utc|--zone=UTC' 'describe|daily|--utc|--zone=UTC' \
-    'downtime|--utc|--zone=UTC' 'clear|--utc|--zone=UTC' 'changes|before|--utc|--zone=UTC' 'week|--zone=UTC|--utc'; do
+    'downtime|--utc|--zone=UTC' 'clear|--utc|--zone=UTC' 'changes|before|--utc|--zone=UTC' 'week|--zone=UTC|--utc' 'scripts|--utc|--zone=UTC'; do
     machine_words_tell_usage "$words" <<'END'
 error: the argument '--zone <ZONE>' cannot be used with '--utc'
 
@@ -530,6 +582,10 @@ plan|--limit=x => error: invalid value 'x' for '--limit <N>': invalid digit foun
 quiet|--delays => error: unexpected argument '--delays' found
 check|--except=a => error: unexpected argument '--except' found
 sources|--except=a => error: unexpected argument '--except' found
+check|--idle => error: unexpected argument '--idle' found
+sources|--idle => error: unexpected argument '--idle' found
+plan|--idle|--idle => error: the argument '--idle' cannot be used multiple times
+describe|--idle=yes => error: unexpected value 'yes' for '--idle' found; no more were expected
 check|--strict => error: unexpected argument '--strict' found
 sources|--strict => error: unexpected argument '--strict' found
 plan|--strict|--strict => error: the argument '--strict' cannot be used multiple times
@@ -597,6 +653,16 @@ week|--json|--json => error: the argument '--json' cannot be used multiple times
 week|--limit=4294967296 => error: invalid value '4294967296' for '--limit <N>': 4294967296 is not in 0..=4294967295
 week|--room=-1 => error: invalid value '-1' for '--room <N>': -1 is not in 0..=4294967295
 week|--version => error: unexpected argument '--version' found
+scripts|tomorrow => error: unexpected argument 'tomorrow' (for a time, use --after)
+scripts|--after|now|tomorrow => error: unexpected argument 'tomorrow' (for a time, use --after)
+scripts|--since=x => error: unexpected argument '--since' found
+scripts|--after=x|--after=x => error: the argument '--after <TIME>' cannot be used multiple times
+scripts|--except => error: a value is required for '--except <JOB>' but none was supplied
+scripts|--delays => error: unexpected argument '--delays' found
+scripts|--table => error: unexpected argument '--table' found
+scripts|--text => error: unexpected argument '--text' found
+scripts|--json => error: unexpected argument '--json' found
+scripts|--limit=1 => error: unexpected argument '--limit' found
 Downtime => error: unrecognized subcommand 'Downtime'
 --nominal => error: unexpected argument '--nominal' found
 next => error: the following required arguments were not provided:
@@ -605,6 +671,7 @@ next|daily|--count|2|tomorrow => error: unexpected argument 'tomorrow' (for a ti
 next|daily|--root=. => error: unexpected argument '--root' found
 next|daily|--all => error: unexpected argument '--all' found
 next|daily|--except=a => error: unexpected argument '--except' found
+next|daily|--idle => error: unexpected argument '--idle' found
 next|daily|--strict => error: unexpected argument '--strict' found
 next|daily|--delays => error: unexpected argument '--delays' found
 next|daily|--table|--table => error: the argument '--table' cannot be used multiple times
@@ -642,6 +709,7 @@ mkdir -p "$machine_words_folder"
 machine_words_make_help
 machine_words_make_answers_help
 machine_words_make_windows_help
+machine_words_make_scripts_help
 machine_words_tell_help
 machine_words_tell_usages
 machine_words_begin_usage

@@ -26,7 +26,7 @@ suggestions_rows() {
 # Compares the error of each question with the same line.
 suggestions_questions() {
   local question
-  for question in upcoming plan quiet downtime clear 'changes before' week check; do
+  for question in upcoming plan quiet downtime clear 'changes before' week scripts check; do
     # shellcheck disable=SC2086
     run_in "$suggestions_folder" agenda machine $question --root root --zone "$1"
     compare_texts "suggestions: $question --zone '$1'" '' "agenda: zone '$1': $2"$'\n' 1

@@ -541,6 +541,7 @@ Commands:
   clear     Succeeds if no job of a machine starts in a span
   changes   Compares a machine's plan with one made before
   week      Shows how many jobs of a machine start in each hour
+  scripts   Lists the scripts that run-parts starts, with the next start of each
   check     Prints errors and likely mistakes in a machine's crontabs and timers
   sources   Lists a machine's crontabs and timers
   next      Prints the next starts of a rule by the machine's clock
@@ -907,6 +908,7 @@ $command|$span|--delays => error: unexpected argument '--delays' found
 $command|$span|--table => error: unexpected argument '--table' found
 $command|$span|--utc => error: unexpected argument '--utc' found
 $command|$span|--except=a => error: unexpected argument '--except' found
+$command|$span|--idle => error: unexpected argument '--idle' found
 $command|$span|--cron=@daily => error: unexpected argument '--cron' found
 $command|$span|--calendar=daily => error: unexpected argument '--calendar' found
 $command|$span|--version => error: unexpected argument '--version' found
@@ -959,6 +961,7 @@ changes|before|--nominal => error: unexpected argument '--nominal' found
 changes|before|--table => error: unexpected argument '--table' found
 changes|before|--utc => error: unexpected argument '--utc' found
 changes|before|--except=a => error: unexpected argument '--except' found
+changes|before|--idle => error: unexpected argument '--idle' found
 changes|before|--version => error: unexpected argument '--version' found
 changes|before|--planners=x => error: invalid value 'x' for '--planners <N>': invalid digit found in string
 changes|before|--room=-1 => error: invalid value '-1' for '--room <N>': -1 is not in 0..=4294967295

@@ -100,7 +100,7 @@ print_prose() {
   mapfile -t scripts < <(grep -d skip -slE '^say_(usage|help)[a-z_]*\(\)' bin/*)
   document_awk -f "$document_parts/markdown.awk" -f "$document_parts/texts-markdown.awk" README.md "${pages[@]}"
   document_awk -f "$document_parts/texts-mdoc.awk" man/*.1
-  document_awk -f "$document_parts/texts-help.awk" crates/agenda_options/src/command/help.rt "${scripts[@]}"
+  document_awk -f "$document_parts/texts-help.awk" crates/agenda_options/src/command/{help,machine/texts}.rt "${scripts[@]}"
 }
 
 # Reports words of the list in that prose, apart from the exceptions of the file $1.
