@@ -138,7 +138,7 @@ fn add_timer_job(
     ensures known { OnOk result (known.new ≡ (if is_timer_name name.now && has_section
         then after_job known.old (timer_job name.now (draft_of draft).unit draft.events options) else after_other known.old name.now)) }
 {
-    if is_timer_name(name.as_bytes()) && has_section {
+    if is_timer_name(name) && has_section {
         let job = timer_job(alloc, name, draft.unit, draft.events, options)?;
         return add_job(known, found, 0, job);
     }

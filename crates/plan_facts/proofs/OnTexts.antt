@@ -14,7 +14,7 @@ use Rattle.plan_grammar.specs.EventZones.{zone_clock}
 use Rattle.plan_grammar.specs.Event.{component_item, component_items, component_number, component_reading, component_side, component_value, event_of, expression_of, places_reading, spelled_out, weekday_item, weekday_items, weekday_of, weekday_reading, weekdays_reading, words_reading, zone_cut, zoneless}
 use Rattle.plan_grammar.specs.Shape.{date_reading, dated, shape_reading, time_reading}
 use Rattle.plan_rules.specs.Crontab.{entries_of_lines, job_reading, line_reading, what_reading}
-use Rattle.plan_rules.specs.Timer.{effect_of, is_timer_name, section_name, setting_of}
+use Rattle.plan_rules.specs.Timer.{effect_of, is_timer_file, is_timer_name, section_name, setting_of, user_and_file}
 use Rattle.plan_times.specs.Days.{date_of, dated_weekday, day_of, weekday_of as named_weekday}
 use Rattle.plan_times.specs.Forms.{counted, form_of, local_of, marked, offset_second, timestamp_of, whole_seconds, worded}
 use Rattle.plan_times.specs.Parts.{cut_at_t, cut_last_word, number_of}
@@ -45,7 +45,7 @@ on_crontabs = tt
 
 -- the job of a timer file
 unfoldable pub on_timers : ⊤
-unfolding on_events is_utf8 chars lib.Utf8.encode lines whole_lines is_timer_name section_name setting_of effect_of
+unfolding on_events is_utf8 chars lib.Utf8.encode lines whole_lines is_timer_file is_timer_name user_and_file section_name setting_of effect_of
 on_timers = tt
 
 -- the form of the text of a time (systemd.time(7))

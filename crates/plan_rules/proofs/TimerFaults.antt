@@ -1,6 +1,6 @@
 -- Which errors a timer file has, and what is known of its name and its lines: for `timer` and `service_name`.
 -- `own_lines` follows the definition: after each step all errors are of a line.
-use Rattle.std.proofs.Common.{◌≡◌, ℕ, ◌+◌, ◌-◌, ◌≤◌, Bool, true, false, cond, nat_lt, nat_le, nat_eq, List, [], ◌∷◌, length, drop, get_or, map, codes, Option, Ok, Err, IfErr, string_bytes, refl, ap, sym, ◌∙◌, arith}
+use Rattle.std.proofs.Common.{◌≡◌, ℕ, ◌+◌, ◌-◌, ◌≤◌, Bool, true, false, cond, nat_lt, nat_le, nat_eq, List, [], ◌∷◌, length, drop, get_or, map, codes, Option, None, Some, Ok, Err, IfErr, string_bytes, refl, ap, sym, ◌∙◌, arith}
 use Rattle.std.proofs.lemmas.Bool.{and_parts, leb-true}
 use Rattle.std.proofs.lemmas.List.{get_or-drop}
 use Rattle.std.proofs.lemmas.Str.{IsCharBoundary-before_ascii}
@@ -19,7 +19,7 @@ use Rattle.plan_rules.specs.Entries.{entry_at, faults_of, unless_faulty}
 use Rattle.plan_rules.specs.FileText.{text_reading}
 use Rattle.plan_rules.specs.Job.{JobParts}
 use Rattle.plan_texts.specs.WholeLines.{whole_lines, whole_text, trimmed}
-use Rattle.plan_rules.specs.Timer.{Effect, Reset, Event, Starts, Nothing, is_timer_name, effects_from, has_timer, job_with, settings_from}
+use Rattle.plan_rules.specs.Timer.{Effect, Reset, Event, Starts, Nothing, file_by, is_name_by, is_timer_file, is_timer_name, is_user_with_timers, timer_file, user_and_file, effects_from, has_timer, job_with, settings_from}
 use Rattle.plan_rules.specs.TimerOptions.{options_of}
 use Rattle.plan_rules.specs.declared.timer_options.TimerOptions.{TimerOptions}
 use Rattle.plan_rules.specs.TimerEntries.{EventCount, after_event_text, count_after, Has, Idle, entries_from, entry_of, lines_draft, no_events, timer_of_lines, timer_reading}
@@ -29,14 +29,23 @@ use Rattle.plan_rules.proofs.CrontabFaults.{IsLineCause, IsOwnFault, answered, r
 
 -- ---- the name
 
--- a timer's name is long enough to be cut before `.timer`
-pub name_long : (name : List ℕ) → is_timer_name name ≡ true → 7 ≤ length name
+file_valid_by : (name : List ℕ) → (parts : Option (List ℕ × List ℕ)) → is_name_by name parts ≡ true → is_timer_file (file_by name parts) ≡ true
+file_valid_by name None is = is
+file_valid_by name (Some parts) is = (and_parts (is_user_with_timers parts.0) (is_timer_file parts.1) is).1
+
+-- the file of a timer with a valid name has a valid name
+pub file_valid : (name : List ℕ) → is_timer_name name ≡ true → is_timer_file (timer_file name) ≡ true
 unfolding is_timer_name
+file_valid name is = file_valid_by name (user_and_file name) is
+
+-- the name of a timer's file is long enough to be cut before `.timer`
+pub name_long : (name : List ℕ) → is_timer_file name ≡ true → 7 ≤ length name
+unfolding is_timer_file
 name_long name is = leb-true 7 (length name) (and_parts (nat_le 7 (length name)) _ is).0
 
--- a timer's name may be cut there
-pub boundary_of_name : (name : List ℕ) → is_timer_name name ≡ true → IsCharBoundary name (length name - 6)
-unfolding is_timer_name
+-- the name of a timer's file may be cut there
+pub boundary_of_name : (name : List ℕ) → is_timer_file name ≡ true → IsCharBoundary name (length name - 6)
+unfolding is_timer_file
 boundary_of_name name is =
     let long : 7 ≤ length name = name_long name is in
     let later = (and_parts (nat_le 7 (length name)) _ is).1 in

@@ -1,5 +1,5 @@
 -- What the lines of a timer file say (systemd.timer(5), systemd.syntax(7)), and what the job of the file is.
-use Rattle.std.specs.Prelude.{ℕ, ◌-◌, Bool, false, ◌&&◌, ◌||◌, ◌==◌, nat_le, nat_lt, nat_eq, if◌then◌else◌, List, [], ◌∷◌, ◌++◌, length, take, codes, Option, Some, None, Ok, Err, unwrap_or}
+use Rattle.std.specs.Prelude.{ℕ, ◌-◌, Bool, false, not, ◌&&◌, ◌||◌, ◌==◌, nat_le, nat_lt, nat_eq, if◌then◌else◌, List, [], ◌∷◌, ◌++◌, length, take, codes, Option, Some, None, Ok, Err, unwrap_or}
 use Rattle.std.specs.Char.{is_ascii_alphabetic, is_ascii_digit}
 use Rattle.std.specs.List.{cons_option, list_any, list_all, slice_index, slice_range, ends_with, position_or_len, before_first, after_first}
 use Rattle.std.specs.Option.{option_map_or}
@@ -27,13 +27,49 @@ is_name_byte b =
     || (is_ascii_digit b
     || ((b == byte ":") || ((b == byte "-") || ((b == byte "_") || ((b == byte ".") || (b == byte "\\"))))))
 
--- a timer's name has 7 to 255 bytes and ends in `.timer` (agenda)
-unfoldable pub is_timer_name : List ℕ → Bool
-is_timer_name name =
+-- the name of a timer's file has 7 to 255 bytes and ends in `.timer` (agenda)
+unfoldable pub is_timer_file : List ℕ → Bool
+is_timer_file name =
     nat_le least_name (length name)
     && (nat_le (length name) most_name && (ends_with nat_eq name (codes ".timer") && list_all is_name_byte name))
 
--- the service with the timer's name: its last `.timer` is replaced by `.service` (systemd.timer(5), `Unit=`)
+-- the name of a user who has timers has at least one of these characters (agenda)
+abbrev pub is_user_with_timers : List ℕ → Bool
+is_user_with_timers user = not (length user == 0) && list_all is_name_byte user
+
+abbrev pub is_slash : ℕ → Bool
+is_slash b = b == byte "/"
+
+-- the user and the file of a user's timer, before and after the first `/` of its name (agenda)
+unfoldable pub user_and_file : List ℕ → Option (List ℕ × List ℕ)
+user_and_file name =
+    if nat_lt (position_or_len is_slash name) (length name) then Some (before_first is_slash name, after_first is_slash name) else None
+
+abbrev pub user_by : Option (List ℕ × List ℕ) → Option (List ℕ)
+user_by None = None
+user_by (Some parts) = Some parts.0
+
+-- the user whose timer it is, if it is a user's
+abbrev pub timer_user : List ℕ → Option (List ℕ)
+timer_user name = user_by (user_and_file name)
+
+abbrev pub file_by : List ℕ → Option (List ℕ × List ℕ) → List ℕ
+file_by name None = name
+file_by name (Some parts) = parts.1
+
+-- the name of a timer's file
+abbrev pub timer_file : List ℕ → List ℕ
+timer_file name = file_by name (user_and_file name)
+
+abbrev pub is_name_by : List ℕ → Option (List ℕ × List ℕ) → Bool
+is_name_by name None = is_timer_file name
+is_name_by name (Some parts) = is_user_with_timers parts.0 && is_timer_file parts.1
+
+-- a timer's name is that of its file, or of a user and of its file (agenda)
+unfoldable pub is_timer_name : List ℕ → Bool
+is_timer_name name = is_name_by name (user_and_file name)
+
+-- the service with the name of a timer's file: its last `.timer` is replaced by `.service` (systemd.timer(5), `Unit=`)
 abbrev pub service_name : List ℕ → List ℕ
 service_name name = take (length name - 6) name ++ codes ".service"
 
@@ -147,8 +183,8 @@ has_timer lines = list_any (λ line. inside_after false (section_name (line.1)))
 abbrev pub timer_job : List ℕ → Option (List ℕ) → List Calendar → TimerOptions → JobParts
 timer_job name unit events options = record {
   name = name;
-  user = None;
-  command = unwrap_or unit (service_name name);
+  user = timer_user name;
+  command = unwrap_or unit (service_name (timer_file name));
   rule = Events events;
   delay = delay_seconds options;
   persistent = options.persistent;

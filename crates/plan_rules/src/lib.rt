@@ -45,4 +45,4 @@ pub use timer_events::{TimerLine, TimerReader};
 pub use timer_lines::{is_monotonic_key, is_reset, setting_of};
 pub use timer_options::TimerOptions;
 pub use timer_zones::{add_timer_zones, only_named_zones_matter};
-pub use timers::{MOST_EVENTS, is_timer_name, timer, timer_job};
+pub use timers::{MOST_EVENTS, is_timer_name, timer, timer_job, timer_user};

@@ -82,7 +82,7 @@ impl SourceKind {
             SourceKind::CronD if is_package_name(name.as_bytes()) => None,
             SourceKind::Spool if is_user_name(name.as_bytes()) => None,
             SourceKind::CronD | SourceKind::Spool => Some(LineCause::BadTabName),
-            SourceKind::Timer if is_timer_name(name.as_bytes()) => None,
+            SourceKind::Timer if is_timer_name(name) => None,
             SourceKind::Timer => Some(LineCause::BadTimerName),
         }
     }
