@@ -10,9 +10,9 @@ use Rattle.plan_units.specs.Unit.{unit_by_alias, unit_by_file, unit_within}
 
 -- a link counts by where its text leads
 pub linked_file :
-    (dir : UnitDir) (name text to : List ℕ) (node : Node) → node ≡ Link text → to ≡ lead dir.path text →
-    file_by_lead dir name to ≡ file_by node dir name
-linked_file dir name text to node is leads = ap (file_by_lead dir name) leads ∙ ap (λ n. file_by n dir name) (sym is)
+    (dirs : List UnitDir) (dir : UnitDir) (name text to : List ℕ) (node : Node) → node ≡ Link text → to ≡ lead dir.path text →
+    file_by_lead dirs dir name to ≡ file_by node dirs dir name
+linked_file dirs dir name text to node is leads = ap (file_by_lead dirs dir name) leads ∙ ap (λ n. file_by n dirs dir name) (sym is)
 
 -- no name may be read
 pub within_none :

@@ -1,5 +1,5 @@
 -- The search path of units: the directories that have the units of the system, first to last.
-use Rattle.std.specs.Prelude.{ℕ, if◌then◌else◌, List, [], ◌∷◌, ◌++◌, Option, None, Some, codes}
+use Rattle.std.specs.Prelude.{ℕ, Bool, if◌then◌else◌, List, [], ◌∷◌, ◌++◌, Option, None, Some, codes}
 use Rattle.std.specs.List.{list_any}
 use Rattle.std.specs.Str.{bytes_eq}
 use Rattle.plan_tree.specs.declared.links.End.{End}
@@ -17,6 +17,10 @@ unit_paths =
     ∷ codes "run/systemd/system" ∷ codes "run/systemd/system.attached" ∷ codes "run/systemd/generator"
     ∷ codes "usr/local/lib/systemd/system" ∷ codes "lib/systemd/system" ∷ codes "usr/lib/systemd/system"
     ∷ codes "run/systemd/generator.late" ∷ []
+
+-- directories are those of the system's units if one has such a path, and else those of a user's units (agenda)
+abbrev pub is_of_system : List UnitDir → Bool
+is_of_system dirs = list_any (λ dir. list_any (bytes_eq dir.path) unit_paths) dirs
 
 -- a path that leads to a directory is one of the directories
 abbrev pub dir_at : List ℕ → List ℕ → Node → Option UnitDir

@@ -1,5 +1,5 @@
 -- Which file counts for a unit's name (systemd.unit(5)).
-use Rattle.std.specs.Prelude.{ℕ, ◌+◌, ◌-◌, Bool, not, ◌&&◌, ◌==◌, nat_eq, nat_lt, if◌then◌else◌, List, [], ◌∷◌, ◌++◌, length, drop, Option, None, Some}
+use Rattle.std.specs.Prelude.{ℕ, ◌+◌, ◌-◌, Bool, not, ◌&&◌, ◌||◌, ◌==◌, nat_eq, nat_lt, if◌then◌else◌, List, [], ◌∷◌, ◌++◌, length, drop, Option, None, Some}
 use Rattle.std.specs.List.{list_any, starts_with, suffix_len}
 use Rattle.std.specs.Str.{byte, bytes_eq}
 use Rattle.plan_tree.specs.declared.tree.Node.{Node}
@@ -8,7 +8,7 @@ use Rattle.plan_tree.specs.Links.{is_here, is_up}
 use Rattle.plan_tree.specs.Place.{child, names_of, parent, start}
 use Rattle.plan_units.specs.declared.file.UnitFile.{UnitFile}
 use Rattle.plan_units.specs.declared.paths.UnitDir.{UnitDir}
-use Rattle.plan_units.specs.SearchPath.{unit_paths}
+use Rattle.plan_units.specs.SearchPath.{is_of_system, unit_paths}
 use Rattle.plan_units.specs.UnitNames.{can_be_alias, named_for, template_of}
 use Rattle.plan_units.specs.Validity.{is_unit_name, is_valid_name}
 
@@ -31,9 +31,17 @@ last_name path = drop (length path - suffix_len (λ b. not (b == byte "/")) path
 abbrev pub is_below : List ℕ → List ℕ → Bool
 is_below path dir = starts_with nat_eq path (dir ++ byte "/" ∷ []) && nat_lt (length dir + 1) (length path)
 
--- a path is below one of the directories of units
-abbrev pub is_unit_path : List ℕ → Bool
-is_unit_path path = list_any (λ dir. is_below path dir) unit_paths
+-- a path is below a directory by the path of that, or by where that leads
+abbrev pub is_below_dir : List ℕ → UnitDir → Bool
+is_below_dir path dir = is_below path dir.path || is_below path dir.real
+
+-- a path is below the search path: that of the system's units as a whole, or the directories of a user's units that exist
+-- (systemd.unit(5); (agenda))
+abbrev pub is_unit_path : List UnitDir → List ℕ → Bool
+is_unit_path dirs path =
+    if is_of_system dirs
+    then list_any (λ dir. is_below path dir) unit_paths
+    else list_any (λ dir. is_below_dir path dir) dirs
 
 -- ---- the file of a name
 
@@ -41,33 +49,37 @@ is_unit_path path = list_any (λ dir. is_below path dir) unit_paths
 abbrev pub file_at : UnitDir → List ℕ → Option (List ℕ) → UnitFile
 file_at dir name alias = record { path = child dir.path name; real = child dir.real name; alias = alias }
 
--- a link to another name in a directory of units is an alias. One to an invalid name, or to one for which it can't be an alias,
+-- a link to another name below the search path is an alias. One to an invalid name, or to one for which it can't be an alias,
 -- doesn't count, nor one to the same name, nor one of an instance to its template (systemd.unit(5); systemd 252; (agenda))
-abbrev pub file_by_lead : UnitDir → List ℕ → List ℕ → Option UnitFile
-file_by_lead dir name path =
-    if not (is_unit_path path) then Some (file_at dir name None) else
+abbrev pub file_by_lead : List UnitDir → UnitDir → List ℕ → List ℕ → Option UnitFile
+file_by_lead dirs dir name path =
+    if not (is_unit_path dirs path) then Some (file_at dir name None) else
     if not (is_valid_name (last_name path) && can_be_alias name (last_name path)) then None else
     if bytes_eq (named_for name (last_name path)) name then None else
     Some (file_at dir name (Some (last_name path)))
 
 -- what counts in a directory; a directory of that name doesn't (systemd.unit(5))
-abbrev pub file_by : Node → UnitDir → List ℕ → Option UnitFile
-file_by Missing dir name = None
-file_by Unreadable dir name = None
-file_by Directory dir name = None
-file_by (Link text) dir name = file_by_lead dir name (lead dir.path text)
-file_by (File is_empty) dir name = Some (file_at dir name None)
-file_by Null dir name = Some (file_at dir name None)
-file_by Other dir name = Some (file_at dir name None)
+abbrev pub file_by : Node → List UnitDir → UnitDir → List ℕ → Option UnitFile
+file_by Missing dirs dir name = None
+file_by Unreadable dirs dir name = None
+file_by Directory dirs dir name = None
+file_by (Link text) dirs dir name = file_by_lead dirs dir name (lead dir.path text)
+file_by (File is_empty) dirs dir name = Some (file_at dir name None)
+file_by Null dirs dir name = Some (file_at dir name None)
+file_by Other dirs dir name = Some (file_at dir name None)
 
 abbrev pub or_next : Option UnitFile → Option UnitFile → Option UnitFile
 or_next None next = next
 or_next (Some file) next = Some file
 
--- the first of the directories counts that has a file of the name (systemd.unit(5))
+-- the first of some directories of a search path counts that has a file of the name (systemd.unit(5))
+abbrev pub file_among : (List ℕ → Node) → (dirs some : List UnitDir) → List ℕ → Option UnitFile
+file_among node dirs [] name = None
+file_among node dirs (dir ∷ more) name = or_next (file_by (node (child dir.real name)) dirs dir name) (file_among node dirs more name)
+
+-- the first of all of them
 abbrev pub file_of_name : (List ℕ → Node) → List UnitDir → List ℕ → Option UnitFile
-file_of_name node [] name = None
-file_of_name node (dir ∷ more) name = or_next (file_by (node (child dir.real name)) dir name) (file_of_name node more name)
+file_of_name node dirs name = file_among node dirs dirs name
 
 -- for an instance without a file, the one of its template counts (systemd.unit(5))
 abbrev pub file_of_template : (List ℕ → Node) → List UnitDir → Option (List ℕ) → Option UnitFile

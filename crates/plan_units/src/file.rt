@@ -4,10 +4,10 @@ ghost use Rattle.std.specs.Prelude.{◌≡◌, ◌+◌, ◌-◌, ◌++◌, ◌�
 ghost use Rattle.std.specs.List.{list_any, prefix_len, suffix_len};
 ghost use Rattle.std.specs.Str.{byte};
 ghost use Rattle.plan_tree.specs.Place.{child, start};
-ghost use Rattle.plan_units.specs.UnitFile.{file_at, file_by, file_by_lead, file_of_name, file_of_unit, is_below, is_unit_path, last_name, lead, lead_from};
+ghost use Rattle.plan_units.specs.UnitFile.{file_at, file_by, file_by_lead, file_of_name, file_of_unit, is_below, is_below_dir, is_unit_path, last_name, lead, lead_from};
 
 use crate::names::{can_be_alias, named_for, template_of};
-use crate::paths::{UnitDir, unit_paths};
+use crate::paths::{UnitDir, is_of_system, unit_paths};
 use crate::validity::{is_unit_name, is_valid_name};
 use plan_texts::begins_with;
 use plan_tree::{Name, Node, Place, Tree, is_here, is_up, names_of};
@@ -62,29 +62,30 @@ fn file_of_name<T: Tree>(
         file ≡ file_of_name (T.held tree.now).node dirs.now name.now) }
 {
     for dir in dirs {
-        if let Some(file) = file_in(alloc, tree, dir, name)? {
+        if let Some(file) = file_in(alloc, tree, dirs, dir, name)? {
             return Ok(Some(file));
         }
     }
     Ok(None)
 }
 
-// Returns the file of a name in a directory, if one counts.
+// Returns the file of a name in a directory of a search path, if one counts.
 fn file_in<T: Tree>(
     alloc: Global,
     tree: &T,
+    dirs: &[UnitDir],
     dir: &UnitDir,
     name: &str,
 ) -> Result<Option<UnitFile>, AllocError>
     ensures { T.is_known ≡ true → IfOk result (λ file.
-        file ≡ file_by ((T.held tree.now).node (child dir.now.real name.now)) dir.now name.now) }
+        file ≡ file_by ((T.held tree.now).node (child dir.now.real name.now)) dirs.now dir.now name.now) }
 {
     let real = dir.real.child(alloc, name)?;
     match tree.node(alloc, real.as_str())? {
         Node::Missing | Node::Unreadable | Node::Directory => Ok(None),
         Node::Link(text) => {
             let to = lead(alloc, dir.path.as_str(), text.as_str())?;
-            file_by_lead(alloc, dir, name, to.as_str())
+            file_by_lead(alloc, dirs, dir, name, to.as_str())
         }
         Node::File { .. } | Node::Null | Node::Other => {
             Ok(Some(file_at(alloc, dir, name, None)?))
@@ -95,13 +96,14 @@ fn file_in<T: Tree>(
 // Returns the file of a name that is a link in a directory, if it counts. By its names the link leads to `to`.
 fn file_by_lead(
     alloc: Global,
+    dirs: &[UnitDir],
     dir: &UnitDir,
     name: &str,
     to: &str,
 ) -> Result<Option<UnitFile>, AllocError>
-    ensures { IfOk result (λ file. file ≡ file_by_lead dir.now name.now to.now) }
+    ensures { IfOk result (λ file. file ≡ file_by_lead dirs.now dir.now name.now to.now) }
 {
-    if !is_unit_path(alloc, to)? {
+    if !is_unit_path(alloc, dirs, to)? {
         return Ok(Some(file_at(alloc, dir, name, None)?));
     }
     let last = last_name(to);
@@ -159,11 +161,14 @@ fn lead_on(alloc: Global, dir: Place, name: &str) -> Result<Place, AllocError>
     dir.child(alloc, name)
 }
 
-// Returns whether a path is below one of the directories of units.
-fn is_unit_path(alloc: Global, path: &str) -> Result<bool, AllocError>
-    ensures { IfOk result (λ is. is ≡ is_unit_path path.now) }
+// Returns whether a path is below the search path that these directories are of.
+fn is_unit_path(alloc: Global, dirs: &[UnitDir], path: &str) -> Result<bool, AllocError>
+    ensures { IfOk result (λ is. is ≡ is_unit_path dirs.now path.now) }
 {
-    is_below_any(alloc, path, &unit_paths())
+    if is_of_system(dirs) {
+        return is_below_any(alloc, path, &unit_paths());
+    }
+    is_below_dirs(alloc, path, dirs)
 }
 
 // Returns whether a path is below one of some directories.
@@ -178,8 +183,31 @@ fn is_below_any(alloc: Global, path: &str, dirs: &[&str]) -> Result<bool, AllocE
     Ok(false)
 }
 
-// Returns whether a path is below a directory.
-fn is_below(alloc: Global, path: &str, dir: &str) -> Result<bool, AllocError>
+// Returns whether a path is below one of some directories, or below where one leads.
+fn is_below_dirs(alloc: Global, path: &str, dirs: &[UnitDir]) -> Result<bool, AllocError>
+    ensures { IfOk result (λ is. is ≡ list_any (λ dir. is_below_dir path.now dir) dirs.now) }
+{
+    for dir in dirs {
+        if is_below_dir(alloc, path, dir)? {
+            return Ok(true);
+        }
+    }
+    Ok(false)
+}
+
+// Returns whether a path is below a directory, or below where that leads.
+fn is_below_dir(alloc: Global, path: &str, dir: &UnitDir) -> Result<bool, AllocError>
+    ensures { IfOk result (λ is. is ≡ is_below_dir path.now dir.now) }
+{
+    Ok(is_below(alloc, path, dir.path.as_str())? || is_below(alloc, path, dir.real.as_str())?)
+}
+
+/// Returns whether a path is below a directory.
+///
+/// # Errors
+///
+/// `AllocError` if an allocation fails.
+pub fn is_below(alloc: Global, path: &str, dir: &str) -> Result<bool, AllocError>
     ensures { IfOk result (λ is. is ≡ is_below path.now dir.now) }
 {
     let mut front = String::from_str(alloc, dir)?;

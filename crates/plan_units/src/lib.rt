@@ -18,7 +18,7 @@ mod validity;
 mod wants;
 
 pub use drop_in_files::{drop_in_entries, drop_ins, drop_ins_among};
-pub use file::{UnitFile, file_of_unit, last_name};
+pub use file::{UnitFile, file_of_unit, is_below, last_name};
 pub use mask::is_mask;
 pub use merging::{Entry, entries_among, names_at};
 pub use names::{stem, template_of, wanted_name};

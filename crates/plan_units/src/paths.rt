@@ -5,7 +5,7 @@ ghost use Rattle.std.specs.List.{list_any};
 ghost use Rattle.std.specs.Str.{bytes_eq};
 ghost use Rattle.plan_tree.specs.Links.{end_of};
 ghost use Rattle.plan_units.specs.Entries.{read_dir};
-ghost use Rattle.plan_units.specs.SearchPath.{dir_by, search_path, unit_paths, with_dir};
+ghost use Rattle.plan_units.specs.SearchPath.{dir_by, is_of_system, search_path, unit_paths, with_dir};
 
 use plan_tree::{End, Node, Place, Tree, follow};
 use std::alloc::{AllocError, Global};
@@ -56,6 +56,32 @@ pub(crate) fn unit_paths() -> [&'static str; 13]
         "usr/lib/systemd/system",
         "run/systemd/generator.late",
     ]
+}
+
+// Returns whether directories are those of the system's units.
+pub(crate) fn is_of_system(dirs: &[UnitDir]) -> bool
+    ensures { result ≡ is_of_system dirs.now }
+{
+    dirs.iter().any(|dir| is_system_path(dir.path.as_str()))
+}
+
+// Returns whether a path is that of a directory of the system's units.
+fn is_system_path(path: &str) -> bool
+    ensures { result ≡ list_any (bytes_eq path.now) unit_paths }
+{
+    is_one_of(path, &unit_paths())
+}
+
+// Returns whether a path is one of some paths.
+fn is_one_of(path: &str, others: &[&str]) -> bool
+    ensures { result ≡ list_any (bytes_eq path.now) (map (λ other. other.now) others.now) }
+{
+    for other in others {
+        if path == *other {
+            return true;
+        }
+    }
+    false
 }
 
 /// Returns the directories of units that exist in a tree, first to last.

@@ -1,0 +1,9 @@
+use Rattle.std.proofs.Common.{◌≡◌, drop, map}
+use Rattle.std.specs.List.{list_any}
+use Rattle.std.specs.Str.{bytes_eq}
+use Rattle.plan_units.proofs.paths.is_one_of.Given as goal
+
+abbrev pub invariant-loop-other : goal.invariant-loop-other
+invariant-loop-other l =
+    list_any (bytes_eq l.path) (map (λ other. other.now) l.others)
+    ≡ list_any (bytes_eq l.path) (map (λ other. other.now) (drop l.other-index l.others))
