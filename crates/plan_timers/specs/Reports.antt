@@ -3,7 +3,7 @@ use Rattle.std.specs.Prelude.{ℕ, List, ◌++◌, codes}
 use Rattle.plan_timers.specs.declared.reports.Why.{Why}
 use Rattle.plan_timers.specs.declared.reports.Why.TheVariants.{NoLink, BadName, Escape, NoSuchTimer, Masked, NotReadable, NameTaken, NotUtf8, WantedBy}
 use Rattle.plan_timers.specs.declared.reports.Unplanned.{Unplanned}
-use Rattle.plan_timers.specs.declared.reports.Unplanned.TheVariants.{Anacron, Monotonic, AtJobs, UserTimers, UnitMissing, UnitMasked, UnitIdle, NotLoaded, LineNotLoaded, Idle}
+use Rattle.plan_timers.specs.declared.reports.Unplanned.TheVariants.{Anacron, Monotonic, AtJobs, UserTimers, NotLingering, UnitMissing, UnitMasked, UnitIdle, NotLoaded, LineNotLoaded, Idle}
 
 -- why something is skipped
 abbrev pub why_text : Why → List ℕ
@@ -23,6 +23,7 @@ unplanned_text Anacron = codes "anacron starts jobs by days since they ran"
 unplanned_text Monotonic = codes "starts by OnBootSec= or the like"
 unplanned_text AtJobs = codes "jobs of at"
 unplanned_text UserTimers = codes "user timers"
+unplanned_text (NotLingering user) = codes "user " ++ user ++ codes " does not linger"
 unplanned_text (UnitMissing unit) = codes "its unit " ++ unit ++ codes " is missing"
 unplanned_text (UnitMasked unit) = codes "its unit " ++ unit ++ codes " is masked"
 unplanned_text (UnitIdle unit) = codes "its unit " ++ unit ++ codes " has no ExecStart="

@@ -77,6 +77,8 @@ pub enum Unplanned {
     AtJobs,
     /// The directory has timers of a user.
     UserTimers,
+    /// The timer is one of the user with this name, who doesn't linger: it starts only while the user is logged in.
+    NotLingering(Text),
     /// The unit that the timer starts has no file.
     UnitMissing(Text),
     /// The unit that the timer starts is masked.
@@ -105,6 +107,9 @@ impl Unplanned {
             Unplanned::Monotonic => copy_of(alloc, "starts by OnBootSec= or the like"),
             Unplanned::AtJobs => copy_of(alloc, "jobs of at"),
             Unplanned::UserTimers => copy_of(alloc, "user timers"),
+            Unplanned::NotLingering(user) => {
+                around(alloc, "user ", user.as_str(), " does not linger")
+            }
             Unplanned::UnitMissing(unit) => {
                 around(alloc, "its unit ", unit.as_str(), " is missing")
             }

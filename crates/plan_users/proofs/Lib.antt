@@ -1,1 +1,2 @@
 pub mod UserLemmas
+pub mod UserTreeLemmas

@@ -3,35 +3,32 @@ use Rattle.std.specs.Prelude.{ℕ, Bool, ◌||◌, if◌then◌else◌, List, []
 use Rattle.plan_services.specs.Planned.{not_planned, planned}
 use Rattle.plan_timers.specs.declared.reports.NotPlanned.{NotPlanned}
 use Rattle.plan_timers.specs.declared.reports.Skipped.{Skipped}
+use Rattle.plan_timers.specs.declared.reports.Unplanned.TheVariants.{NotLingering}
 use Rattle.plan_timers.specs.Source.{TimerParts}
 use Rattle.plan_timers.specs.Timers.{FoundTimers}
 use Rattle.plan_tree.specs.Tree.{Held}
 use Rattle.plan_units.specs.declared.paths.UnitDir.{UnitDir}
 use Rattle.plan_units.specs.UnitFile.{is_below}
-use Rattle.plan_users.specs.declared.found.NotLingering.{NotLingering}
-use Rattle.plan_users.specs.declared.found.UserTimer.{UserTimer}
 use Rattle.plan_users.specs.declared.found.UserTimers.{UserTimers}
 use Rattle.plan_users.specs.declared.managers.Manager.{Manager}
 use Rattle.plan_users.specs.Dirs.{config_dir, data_dir}
 use Rattle.plan_users.specs.Lingering.{lingers}
 
--- the timers that are planned, what is skipped, the timers whose unit can't start, and the users who have timers but don't linger
+-- the timers that are planned, what is skipped, and what isn't planned
 pub record FoundUsers : Type 0 where
-  pub timers : List UserTimer
+  pub timers : List TimerParts
   pub skipped : List Skipped
   pub unplanned : List NotPlanned
-  pub lingerless : List NotLingering
 
 abbrev pub users_view : UserTimers → FoundUsers
 users_view found = record {
   timers = found.timers.items;
   skipped = found.skipped.items;
   unplanned = found.unplanned.items;
-  lingerless = found.lingerless.items;
 }
 
 abbrev pub nothing : FoundUsers
-nothing = record { timers = []; skipped = []; unplanned = []; lingerless = [] }
+nothing = record { timers = []; skipped = []; unplanned = [] }
 
 -- what is found, and then what else is
 abbrev pub joined : FoundUsers → (more : FoundUsers) → FoundUsers
@@ -39,7 +36,6 @@ joined found more = record {
   timers = found.timers ++ more.timers;
   skipped = found.skipped ++ more.skipped;
   unplanned = found.unplanned ++ more.unplanned;
-  lingerless = found.lingerless ++ more.lingerless;
 }
 
 -- ---- a user who lingers
@@ -48,11 +44,8 @@ joined found more = record {
 abbrev pub job_of : (user : List ℕ) → (name : List ℕ) → List ℕ
 job_of user name = user ++ codes "/" ++ name
 
-abbrev pub user_timer : (user : List ℕ) → TimerParts → UserTimer
-user_timer user timer = record {
-  user = user;
-  timer = record { unit = timer.unit; name = job_of user timer.name; file = timer.file; drop_ins = timer.drop_ins };
-}
+abbrev pub user_timer : (user : List ℕ) → TimerParts → TimerParts
+user_timer user timer = record { unit = timer.unit; name = job_of user timer.name; file = timer.file; drop_ins = timer.drop_ins }
 
 -- the timers are planned, but those whose unit can't start
 abbrev pub planned_of : Held → List UnitDir → (user : List ℕ) → FoundTimers → FoundUsers
@@ -60,7 +53,6 @@ planned_of held dirs user timers = record {
   timers = map (user_timer user) (planned held dirs timers.sources);
   skipped = timers.skipped;
   unplanned = not_planned held dirs timers.sources;
-  lingerless = [];
 }
 
 -- ---- a user who doesn't linger
@@ -74,17 +66,16 @@ abbrev pub first_at_home : (home : List ℕ) → List TimerParts → Option (Lis
 first_at_home home [] = None
 first_at_home home (timer ∷ more) = if is_at_home home timer.file.path then Some timer.file.path else first_at_home home more
 
-abbrev pub lingerless_by : (user : List ℕ) → Option (List ℕ) → List NotLingering
+abbrev pub lingerless_by : (user : List ℕ) → Option (List ℕ) → List NotPlanned
 lingerless_by user None = []
-lingerless_by user (Some path) = record { user = user; path = path } ∷ []
+lingerless_by user (Some path) = record { path = path; why = NotLingering user } ∷ []
 
 -- the user is reported by that file: the other timers are those of all users (agenda)
 abbrev pub lingerless_of : Manager → FoundTimers → FoundUsers
 lingerless_of manager timers = record {
   timers = [];
   skipped = [];
-  unplanned = [];
-  lingerless = lingerless_by manager.user (first_at_home manager.home timers.sources);
+  unplanned = lingerless_by manager.user (first_at_home manager.home timers.sources);
 }
 
 -- ---- a user

@@ -3,3 +3,4 @@ pub mod Dirs
 pub mod Lingering
 pub mod Found
 pub mod Timers
+pub mod UserTree

@@ -1,5 +1,5 @@
 -- The users who can have a manager of units (user@.service(5)).
-use Rattle.std.specs.Prelude.{ℕ, Bool, not, ◌&&◌, ◌||◌, ◌==◌, if◌then◌else◌, List, [], ◌∷◌, Option, None, Some}
+use Rattle.std.specs.Prelude.{ℕ, Bool, not, ◌&&◌, ◌||◌, ◌==◌, if◌then◌else◌, List, [], ◌∷◌, map, Option, None, Some}
 use Rattle.std.specs.List.{cons_option, list_any}
 use Rattle.std.specs.Str.{byte, bytes_eq}
 use Rattle.plan_owners.specs.declared.users.User.{User}
@@ -33,13 +33,13 @@ home_of home = if begins_with (λ b. b == byte "/") home then Some (place_from [
 
 -- ---- one user
 
-abbrev pub manager_at : (name : List ℕ) → Option (List ℕ) → Option Manager
-manager_at name None = None
-manager_at name (Some home) = Some (record { user = name; home = home })
+abbrev pub manager_at : User → Option (List ℕ) → Option Manager
+manager_at user None = None
+manager_at user (Some home) = Some (record { user = user.name; number = user.number; home = home })
 
 -- a user with such a name and such a home directory
 abbrev pub manager_of : User → Option Manager
-manager_of user = if is_file_name user.name then manager_at user.name (home_of user.home) else None
+manager_of user = if is_file_name user.name then manager_at user (home_of user.home) else None
 
 -- ---- all users
 
@@ -58,3 +58,7 @@ managers_by (Some users) = managers_after [] users
 -- the users who can have a manager, in the order of etc/passwd; none if that can't be read
 abbrev pub managers_of : Held → List Manager
 managers_of held = managers_by (users_of held)
+
+-- their home directories
+abbrev pub homes_of : Held → List (List ℕ)
+homes_of held = map (λ manager. manager.home) (managers_of held)

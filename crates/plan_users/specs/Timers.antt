@@ -12,10 +12,12 @@ use Rattle.plan_users.specs.Dirs.{has_dirs, user_dirs}
 use Rattle.plan_users.specs.Found.{FoundUsers, found_for, joined, nothing}
 use Rattle.plan_users.specs.Lingering.{lingers}
 use Rattle.plan_users.specs.Managers.{managers_of}
+use Rattle.plan_users.specs.UserTree.{held_for}
 
 -- ---- one user
 
--- what is found for a user whose units are in these directories: the timers go by the rules of those of the machine
+-- what is found for a user whose units are in these directories: the timers go by the rules of those of the machine, in the tree
+-- that the user's manager reads
 abbrev pub IsFoundIn : Held → List UnitDir → (most : ℕ) → Manager → FoundUsers → Type 0
 IsFoundIn held dirs most manager found =
     (timers : FoundTimers) × AreMachineTimers held dirs false most timers × (found ≡ found_for held dirs manager timers)
@@ -26,7 +28,7 @@ abbrev pub has_units : (List ℕ → Node) → Manager → Bool
 has_units node manager = lingers node manager.user || has_dirs node manager.home
 
 abbrev pub IsFoundBy : Held → (most : ℕ) → Manager → (has_units : Bool) → FoundUsers → Type 0
-IsFoundBy held most manager true found = IsFoundIn held (user_dirs held.node manager.home) most manager found
+IsFoundBy held most manager true found = IsFoundIn (held_for manager held) (user_dirs held.node manager.home) most manager found
 IsFoundBy held most manager false found = found ≡ nothing
 
 abbrev pub IsFoundFor : Held → (most : ℕ) → Manager → FoundUsers → Type 0
@@ -49,7 +51,7 @@ AreUserTimers held most found = AreFoundAfter held most (managers_of held) nothi
 -- the manager of a user reaches too many units, if its timers are looked for
 abbrev pub ReachesTooMany : Held → Manager → Type 0
 ReachesTooMany held manager =
-    (has_units held.node manager ≡ true) × AreTooMany (wants_of held (user_dirs held.node manager.home)) first_unit
+    (has_units held.node manager ≡ true) × AreTooMany (wants_of (held_for manager held) (user_dirs held.node manager.home)) first_unit
 
 -- that of some user does
 abbrev pub AreTooManyUserUnits : Held → Type 0

@@ -3,7 +3,6 @@
 ghost use Rattle.std.specs.Prelude.{◌≡◌, [], true, IfOk, OnOk, map};
 ghost use Rattle.std.specs.Option.{option_map};
 ghost use Rattle.plan_timers.specs.Timers.{found_view};
-ghost use Rattle.plan_units.specs.UnitFile.{is_below};
 ghost use Rattle.plan_users.specs.Found.{first_at_home, found_for, is_at_home, job_of, joined, lingerless_by, lingerless_of};
 ghost use Rattle.plan_users.specs.Found.{nothing, planned_of, user_timer, users_view};
 
@@ -12,40 +11,22 @@ use crate::lingering::lingers;
 use crate::managers::Manager;
 use plan_services::{PlannedTimers, planned_timers};
 use plan_texts::Text;
-use plan_timers::{NotPlanned, Skipped, TimerSource, TimersFound, copy_of};
+use plan_timers::{NotPlanned, Skipped, TimerSource, TimersFound, Unplanned, copy_of};
 use plan_tree::{Place, Tree};
-use plan_units::UnitDir;
+use plan_units::{UnitDir, is_below};
 use std::alloc::{AllocError, Global};
-
-/// A timer of a user that is planned.
-#[derive(Debug, Drop)]
-pub struct UserTimer {
-    /// The name of the user.
-    pub user: Text,
-    /// The timer. The name of its job is the user's name, a slash, and the name that the system's timer would have.
-    pub timer: TimerSource,
-}
-
-/// A user who has timers but doesn't linger, so that the timers start only while the user is logged in.
-#[derive(Debug, Drop)]
-pub struct NotLingering {
-    /// The name of the user.
-    pub user: Text,
-    /// The path of the first of these timers whose file is in the user's home directory.
-    pub path: Text,
-}
 
 /// What is found of the timers of users.
 #[derive(Debug, Drop)]
 pub struct UserTimers {
-    /// The timers that are planned.
-    pub timers: Vec<UserTimer>,
+    /// The timers that are planned. The name of the job of each is the user's name, a slash, and the name that it would have as a
+    /// timer of the system.
+    pub timers: Vec<TimerSource>,
     /// What is skipped, in the order in which it was found. Directories that several users read may come more than once.
     pub skipped: Vec<Skipped>,
-    /// The timers whose unit can't start.
+    /// What isn't planned: of a user who lingers the timers whose unit can't start, and of another one the first timer whose file
+    /// is in the user's home directory.
     pub unplanned: Vec<NotPlanned>,
-    /// The users who have timers but don't linger.
-    pub lingerless: Vec<NotLingering>,
 }
 
 // Returns that nothing is found.
@@ -56,7 +37,6 @@ pub(crate) fn nothing(alloc: Global) -> UserTimers
         timers: Vec::new(alloc),
         skipped: Vec::new(alloc),
         unplanned: Vec::new(alloc),
-        lingerless: Vec::new(alloc),
     }
 }
 
@@ -69,7 +49,6 @@ pub(crate) fn joined(found: UserTimers, more: UserTimers) -> Result<UserTimers, 
     found.timers.append(&mut more.timers)?;
     found.skipped.append(&mut more.skipped)?;
     found.unplanned.append(&mut more.unplanned)?;
-    found.lingerless.append(&mut more.lingerless)?;
     Ok(found)
 }
 
@@ -108,7 +87,6 @@ fn planned_of<T: Tree>(
         timers: timers_of(alloc, user, planned)?,
         skipped,
         unplanned: others,
-        lingerless: Vec::new(alloc),
     })
 }
 
@@ -117,7 +95,7 @@ fn timers_of(
     alloc: Global,
     user: &str,
     sources: Vec<TimerSource>,
-) -> Result<Vec<UserTimer>, AllocError>
+) -> Result<Vec<TimerSource>, AllocError>
     ensures { IfOk result (λ timers. timers.items ≡ map (user_timer user.now) sources.items) }
 {
     let mut timers = Vec::new(alloc);
@@ -128,7 +106,7 @@ fn timers_of(
 }
 
 // Returns a timer as that of a user.
-fn user_timer(alloc: Global, user: &str, source: TimerSource) -> Result<UserTimer, AllocError>
+fn user_timer(alloc: Global, user: &str, source: TimerSource) -> Result<TimerSource, AllocError>
     ensures { IfOk result (λ timer. timer ≡ user_timer user.now source) }
 {
     let TimerSource {
@@ -138,14 +116,12 @@ fn user_timer(alloc: Global, user: &str, source: TimerSource) -> Result<UserTime
         drop_ins,
     } = source;
     let name = job_of(alloc, user, name.as_str())?;
-    let user = copy_of(alloc, user)?;
-    let timer = TimerSource {
+    Ok(TimerSource {
         unit,
         name,
         file,
         drop_ins,
-    };
-    Ok(UserTimer { user, timer })
+    })
 }
 
 // Returns the name of a user's job.
@@ -168,22 +144,22 @@ fn lingerless_of(
 {
     let path = first_at_home(alloc, &manager.home, timers.sources.as_slice())?;
     let mut found = nothing(alloc);
-    found.lingerless = lingerless_by(alloc, manager.user.as_str(), path)?;
+    found.unplanned = lingerless_by(alloc, manager.user.as_str(), path)?;
     Ok(found)
 }
 
-// Returns the report of a user by the path of a timer, if there is one.
+// Returns that a user doesn't linger, by the path of a timer, if there is one.
 fn lingerless_by(
     alloc: Global,
     user: &str,
     path: Option<Text>,
-) -> Result<Vec<NotLingering>, AllocError>
+) -> Result<Vec<NotPlanned>, AllocError>
     ensures { IfOk result (λ found. found.items ≡ lingerless_by user.now path) }
 {
     let mut found = Vec::new(alloc);
     if let Some(path) = path {
-        let user = copy_of(alloc, user)?;
-        found.push(NotLingering { user, path })?;
+        let why = Unplanned::NotLingering(copy_of(alloc, user)?);
+        found.push(NotPlanned { path, why })?;
     }
     Ok(found)
 }
@@ -211,13 +187,4 @@ fn is_at_home(alloc: Global, home: &Place, path: &str) -> Result<bool, AllocErro
     let config = config_dir(alloc, home)?;
     let share = data_dir(alloc, home)?;
     Ok(is_below(alloc, path, config.as_str())? || is_below(alloc, path, share.as_str())?)
-}
-
-// Returns whether a path is below a directory.
-fn is_below(alloc: Global, path: &str, dir: &str) -> Result<bool, AllocError>
-    ensures { IfOk result (λ is. is ≡ is_below path.now dir.now) }
-{
-    let mut front = String::from_str(alloc, dir)?;
-    front.push_str("/")?;
-    Ok(path.as_bytes().starts_with(front.as_str().as_bytes()) && dir.len() + 1 < path.len())
 }

@@ -1,10 +1,10 @@
 //! The users who can have a manager of units (user@.service(5)).
 
-ghost use Rattle.std.specs.Prelude.{◌≡◌, ◌==◌, [], true, IfOk};
+ghost use Rattle.std.specs.Prelude.{◌≡◌, ◌==◌, [], true, IfOk, map};
 ghost use Rattle.std.specs.List.{list_any};
 ghost use Rattle.std.specs.Str.{byte};
 ghost use Rattle.plan_tree.specs.Place.{names_of};
-ghost use Rattle.plan_users.specs.Managers.{home_of, inside, is_file_name, manager_of, managers_after, managers_of, new_manager, place_from};
+ghost use Rattle.plan_users.specs.Managers.{home_of, homes_of, inside, is_file_name, manager_of, managers_after, managers_of, new_manager, place_from};
 
 use plan_owners::{User, users_of};
 use plan_rules::Names;
@@ -18,6 +18,8 @@ use std::alloc::{AllocError, Global};
 pub(crate) struct Manager {
     // The name of the user.
     pub(crate) user: Text,
+    // The number of the user, as it is written.
+    pub(crate) number: Text,
     // The home directory, as a path in the tree.
     pub(crate) home: Place,
 }
@@ -30,6 +32,29 @@ pub(crate) fn managers_of<T: Tree>(alloc: Global, tree: &T) -> Result<Vec<Manage
         Some(users) => managers_among(alloc, users.as_slice()),
         None => Ok(Vec::new(alloc)),
     }
+}
+
+/// Returns the home directories of the users who can have a manager of units, as paths in the tree, in the order of etc/passwd.
+///
+/// # Errors
+///
+/// `AllocError` if an allocation fails.
+pub fn user_homes<T: Tree>(alloc: Global, tree: &T) -> Result<Vec<Place>, AllocError>
+    ensures { T.is_known ≡ true → IfOk result (λ homes. homes.items ≡ homes_of (T.held tree.now)) }
+{
+    let managers = managers_of(alloc, tree)?;
+    homes_among(alloc, managers)
+}
+
+// Returns the home directories of some users.
+fn homes_among(alloc: Global, managers: Vec<Manager>) -> Result<Vec<Place>, AllocError>
+    ensures { IfOk result (λ homes. homes.items ≡ map (λ manager. manager.home) managers.items) }
+{
+    let mut homes = Vec::new(alloc);
+    for manager in managers {
+        homes.push(manager.home)?;
+    }
+    Ok(homes)
 }
 
 // Returns those of some users who can have a manager.
@@ -68,6 +93,7 @@ fn manager_of(alloc: Global, user: &User) -> Result<Option<Manager>, AllocError>
         None => Ok(None),
         Some(home) => Ok(Some(Manager {
             user: copy_of(alloc, user.name.as_str())?,
+            number: copy_of(alloc, user.number.as_str())?,
             home,
         })),
     }

@@ -7,19 +7,21 @@ ghost use Rattle.plan_units.specs.Wants.{wants_of};
 ghost use Rattle.plan_users.specs.Dirs.{user_dirs};
 ghost use Rattle.plan_users.specs.Found.{nothing, users_view};
 ghost use Rattle.plan_users.specs.Timers.{AreFoundAfter, AreTooManyUserUnits, AreUserTimers, IsFoundFor, IsFoundIn, ReachesTooMany, has_units};
+ghost use Rattle.plan_users.specs.UserTree.{held_for};
 
 use crate::dirs::{has_dirs, user_dirs};
 use crate::found::{UserTimers, found_for, joined, nothing};
 use crate::lingering::lingers;
 use crate::managers::{Manager, managers_of};
+use crate::user_tree::UserTree;
 use plan_timers::machine_timers;
 use plan_tree::{Complete, Listed, Tree};
 use plan_units::UnitDir;
 use std::alloc::{AllocError, Global};
 
 /// Returns what is found of the timers of the users in the etc/passwd of a machine: those that the manager of a user who
-/// lingers starts, and the other users who have timers. Returns `None` if the manager of a user reaches more than 10,000
-/// units.
+/// lingers starts, and the other users who have timers. In the files `%u`, `%U` and `%h` are the user's. Returns `None` if the
+/// manager of a user reaches more than 10,000 units.
 ///
 /// Of each file the first `most` bytes are read, or all if there are fewer. Read at least 1,048,577, one more than a text may
 /// have: the unit that a timer starts is found in the bytes that were read.
@@ -92,13 +94,14 @@ fn timers_of<T: Complete>(
 ) -> Result<Option<UserTimers>, AllocError>
     ensures found { T.is_known ≡ true → IfOk result (λ found.
         IfSome found (λ own.
-        IsFoundIn (T.held tree.now) (user_dirs (T.held tree.now).node manager.now.home) most manager.now (users_view own))) }
+        IsFoundIn (held_for manager.now (T.held tree.now)) (user_dirs (T.held tree.now).node manager.now.home) most manager.now (users_view own))) }
     ensures too_many { T.is_known ≡ true → IfOk result (λ found.
-        IfNone found (AreTooMany (wants_of (T.held tree.now) (user_dirs (T.held tree.now).node manager.now.home)) first_unit)) }
+        IfNone found (AreTooMany (wants_of (held_for manager.now (T.held tree.now)) (user_dirs (T.held tree.now).node manager.now.home)) first_unit)) }
 {
     let dirs = user_dirs(alloc, tree, &manager.home)?;
     let listed = listed(alloc, tree, dirs.as_slice())?;
-    timers_in(alloc, &listed, dirs.as_slice(), manager, most)
+    let read = UserTree::new(&listed, manager);
+    timers_in(alloc, &read, dirs.as_slice(), manager, most)
 }
 
 // Returns whether a user lingers, or has a directory of units at home.

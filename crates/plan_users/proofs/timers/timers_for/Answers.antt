@@ -8,6 +8,7 @@ use Rattle.plan_units.specs.Wants.{wants_of}
 use Rattle.plan_users.specs.Dirs.{user_dirs}
 use Rattle.plan_users.specs.Found.{users_view}
 use Rattle.plan_users.specs.Timers.{IsFoundBy, ReachesTooMany}
+use Rattle.plan_users.specs.UserTree.{held_for}
 use Rattle.plan_users.proofs.UserLemmas.{none_more}
 use Rattle.plan_users.proofs.timers.timers_for.Goals as goal
 
@@ -23,7 +24,7 @@ returns-then-has-clause-too_many g c = λ known.
     let held = g.T.Tree.held c.args.tree.now in
     let manager = c.args.manager.now in
     IfOk-weaker c.timers_of.result
-    (λ found. IfNone found (AreTooMany (wants_of held (user_dirs held.node manager.home)) first_unit))
+    (λ found. IfNone found (AreTooMany (wants_of (held_for manager held) (user_dirs held.node manager.home)) first_unit))
     (λ found. IfNone found (ReachesTooMany held manager))
     (λ found. none_more _ _ (λ reaches. (sym (c.in_ok-has.ensures known) ∙ c.if-has.true, reaches)) found)
     (c.timers_of.ensures.too_many known)
