@@ -1,3 +1,4 @@
 pub mod NameLemmas
 pub mod ZoneLemmas
 pub mod ToldLemmas
+pub mod UserLemmas

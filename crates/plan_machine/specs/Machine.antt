@@ -1,5 +1,5 @@
 -- What is found on a machine.
-use Rattle.std.specs.Prelude.{◌≡◌, ℕ, Bool, if◌then◌else◌, List, [], ◌∷◌, ◌++◌, map, Option, None, Some, codes}
+use Rattle.std.specs.Prelude.{◌≡◌, ℕ, Bool, if◌then◌else◌, List, [], ◌∷◌, ◌++◌, map, Option, None, Some, codes, ◌⊎◌}
 use Rattle.std.specs.List.{list_any}
 use Rattle.std.specs.Str.{bytes_eq}
 use Rattle.plan_owners.specs.declared.daemon.CronDaemon.{CronDaemon}
@@ -16,10 +16,12 @@ use Rattle.plan_units.specs.Reach.{AreTooMany}
 use Rattle.plan_units.specs.SearchPath.{search_path}
 use Rattle.plan_units.specs.Timers.{first_unit}
 use Rattle.plan_units.specs.Wants.{wants_of}
+use Rattle.plan_users.specs.Found.{FoundUsers}
+use Rattle.plan_users.specs.Timers.{AreTooManyUserUnits, AreUserTimers}
 use Rattle.plan_machine.specs.declared.machine.Machine.{Machine}
 use Rattle.plan_machine.specs.Cron.{crontabs_of}
 use Rattle.plan_machine.specs.Ignored.{KnownCron, cron_of}
-use Rattle.plan_machine.specs.Others.{anacron_jobs, at_jobs, user_timers}
+use Rattle.plan_machine.specs.Others.{anacron_jobs, at_jobs, homeless_timers}
 use Rattle.plan_machine.specs.Source.{SourceParts}
 
 -- the sources, what is skipped, what isn't planned, whether no program reads the crontabs, and which one does
@@ -48,9 +50,11 @@ abbrev pub option_list : Option NotPlanned → List NotPlanned
 option_list None = []
 option_list (Some other) = other ∷ []
 
--- what isn't planned: the table of anacron, these crontabs, these timers, the jobs of at, and the timers of users (agenda)
-abbrev pub unplanned_of : Held → (crontabs timers : List NotPlanned) → List NotPlanned
-unplanned_of held crontabs timers = option_list (anacron_jobs held.node) ++ crontabs ++ timers ++ at_jobs held ++ user_timers held
+-- what isn't planned: the table of anacron, these crontabs, these timers, the jobs of at, these of users, and the timers of other
+-- homes (agenda)
+abbrev pub unplanned_of : Held → (crontabs timers users : List NotPlanned) → List NotPlanned
+unplanned_of held crontabs timers users =
+    option_list (anacron_jobs held.node) ++ crontabs ++ timers ++ at_jobs held ++ users ++ homeless_timers held
 
 -- what is said of something that is skipped (agenda)
 abbrev pub said : Skipped → List ℕ
@@ -75,32 +79,42 @@ abbrev pub with_new : List Skipped → Skipped → (is_new : Bool) → List Skip
 with_new once one is_new = if is_new then once ++ one ∷ [] else once
 
 -- what is found on a machine with these sources in crontabs, which come first, and these timers (agenda)
-abbrev pub machine_with : Held → List SourceParts → List Skipped → List TimerParts → List NotPlanned → KnownCron → FoundMachine
-machine_with held crontabs skipped timers others cron =
+abbrev pub machine_with :
+    Held → List SourceParts → List Skipped → List TimerParts → (others users : List NotPlanned) → KnownCron → FoundMachine
+machine_with held crontabs skipped timers others users cron =
     record {
       sources = crontabs ++ map timer_source timers;
       skipped = skipped;
-      unplanned = unplanned_of held cron.ignored others;
+      unplanned = unplanned_of held cron.ignored others users;
       lacks_cron_daemon = cron.lacks_daemon;
       cron_daemon = cron.daemon;
     }
 
--- what is found on a machine with these timers
-abbrev pub machine_of : Held → List UnitDir → (most : ℕ) → FoundTimers → FoundMachine
-machine_of held dirs most timers =
+-- what is found on a machine with these timers, and these of users, which come last
+abbrev pub machine_of : Held → List UnitDir → (most : ℕ) → FoundTimers → FoundUsers → FoundMachine
+machine_of held dirs most timers users =
     let crontabs = crontabs_of held most in
-    machine_with held crontabs.found (distinct (crontabs.skipped ++ timers.skipped)) (planned held dirs timers.sources)
-    (not_planned held dirs timers.sources) (cron_of held crontabs.found)
+    machine_with held crontabs.found (distinct ((crontabs.skipped ++ timers.skipped) ++ users.skipped))
+    (planned held dirs timers.sources ++ users.timers) (not_planned held dirs timers.sources) users.unplanned (cron_of held crontabs.found)
 
--- what is found on a machine whose units are in these directories
-abbrev pub IsMachineOf : Held → List UnitDir → (all : Bool) → (most : ℕ) → Machine → Type 0
-IsMachineOf held dirs all most machine =
-    (timers : FoundTimers) × AreMachineTimers held dirs all most timers × (machine_view machine ≡ machine_of held dirs most timers)
+-- what is found on a machine whose units are in these directories, with these timers of users
+abbrev pub IsMachineOf : Held → List UnitDir → (all : Bool) → (most : ℕ) → FoundUsers → Machine → Type 0
+IsMachineOf held dirs all most users machine =
+    (timers : FoundTimers) × AreMachineTimers held dirs all most timers × (machine_view machine ≡ machine_of held dirs most timers users)
 
--- what is found on a machine: its units are those of the search path (systemd.unit(5))
+-- what is found on a machine with these timers of users: its units are those of the search path (systemd.unit(5))
+abbrev pub IsMachineWith : Held → (all : Bool) → (most : ℕ) → FoundUsers → Machine → Type 0
+IsMachineWith held all most users machine = IsMachineOf held (search_path held.node) all most users machine
+
+-- what is found on a machine, with the timers of its users
 abbrev pub IsMachine : Held → (all : Bool) → (most : ℕ) → Machine → Type 0
-IsMachine held all most machine = IsMachineOf held (search_path held.node) all most machine
+IsMachine held all most machine =
+    (users : FoundUsers) × AreUserTimers held most users × IsMachineWith held all most users machine
 
 -- the boot of a machine reaches too many units
+abbrev pub AreTooManyBootUnits : Held → Type 0
+AreTooManyBootUnits held = AreTooMany (wants_of held (search_path held.node)) first_unit
+
+-- the boot of a machine, or the manager of a user, does
 abbrev pub AreTooManyUnits : Held → Type 0
-AreTooManyUnits held = AreTooMany (wants_of held (search_path held.node)) first_unit
+AreTooManyUnits held = AreTooManyBootUnits held ⊎ AreTooManyUserUnits held

@@ -11,6 +11,7 @@ use Rattle.plan_tree.specs.Tree.{Held}
 use Rattle.plan_timers.specs.declared.reports.NotPlanned.{NotPlanned}
 use Rattle.plan_timers.specs.declared.reports.Unplanned.TheVariants.{Anacron, AtJobs, UserTimers}
 use Rattle.plan_machine.specs.Directories.{is_directory, names_at, names_in}
+use Rattle.plan_users.specs.Managers.{homes_of}
 use Rattle.plan_machine.specs.Files.{is_file, lead_of}
 
 -- ---- anacron
@@ -53,7 +54,7 @@ at_jobs_of held (path ∷ more) =
 abbrev pub at_jobs : Held → List NotPlanned
 at_jobs held = at_jobs_of held at_paths
 
--- ---- timers of users
+-- ---- timers of homes that no user in etc/passwd has
 
 -- an entry is neither a directory nor a mask (systemd.unit(5))
 abbrev pub is_unit_entry : Node → Bool
@@ -85,17 +86,19 @@ has_user_timer held Unknown = false
 abbrev pub user_units : List ℕ → List ℕ
 user_units home = home ++ codes "/.config/systemd/user"
 
--- the directory of the units of a home, if it has timers
-abbrev pub user_timers_in : Held → List ℕ → List NotPlanned
-user_timers_in held home =
+-- the directory of the units of a home, if it has timers and the home isn't one of these
+abbrev pub timers_of_home : Held → (known : List (List ℕ)) → List ℕ → List NotPlanned
+timers_of_home held known home =
     let path = user_units home in
+    if list_any (λ place. bytes_eq place home) known then [] else
     if has_user_timer held (lead_of held.node path) then record { path = path; why = UserTimers } ∷ [] else []
 
 -- those of some homes below `home`
-abbrev pub user_timers_of : Held → List (List ℕ) → List NotPlanned
-user_timers_of held [] = []
-user_timers_of held (name ∷ more) = user_timers_in held (child (codes "home") name) ++ user_timers_of held more
+abbrev pub timers_of_homes : Held → (known : List (List ℕ)) → List (List ℕ) → List NotPlanned
+timers_of_homes held known [] = []
+timers_of_homes held known (name ∷ more) = timers_of_home held known (child (codes "home") name) ++ timers_of_homes held known more
 
--- those of all homes, in the order of their names, and then that of root
-abbrev pub user_timers : Held → List NotPlanned
-user_timers held = user_timers_of held (names_at held (lead_of held.node (codes "home"))) ++ user_timers_in held (codes "root")
+-- those of all homes that aren't the home of a user in etc/passwd, in the order of their names, and then that of root
+abbrev pub homeless_timers : Held → List NotPlanned
+homeless_timers held =
+    timers_of_homes held (homes_of held) (names_at held (lead_of held.node (codes "home"))) ++ timers_of_home held (homes_of held) (codes "root")

@@ -20,7 +20,7 @@ pub use collection::MachineSources;
 pub use cron::crontabs;
 pub use daemon::{has_cron_daemon, lacks_cron_daemon};
 pub use machine::{Machine, find_machine};
-pub use others::{anacron_jobs, at_jobs, user_timers};
+pub use others::{anacron_jobs, at_jobs, homeless_timers};
 pub use plan_owners::CronDaemon;
 pub use plan_timers::{NotPlanned, Skipped, Unplanned, Why};
 pub use source::MachineSource;

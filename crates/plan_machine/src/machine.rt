@@ -2,11 +2,12 @@
 
 ghost use Rattle.std.specs.Prelude.{◌≡◌, ◌++◌, true, IfOk, IfNone, IfSome, OnOk, map, string_bytes};
 ghost use Rattle.plan_timers.specs.Timers.{found_view};
-ghost use Rattle.plan_machine.specs.Machine.{AreTooManyUnits, IsMachine, distinct, machine_of, machine_view, machine_with, option_list, said, timer_source, unplanned_of, with_new};
+ghost use Rattle.plan_users.specs.Found.{users_view};
+ghost use Rattle.plan_machine.specs.Machine.{AreTooManyBootUnits, AreTooManyUnits, IsMachine, IsMachineWith, distinct, machine_of, machine_view, machine_with, option_list, said, timer_source, unplanned_of, with_new};
 
 use crate::cron::crontabs;
 use crate::ignored::{CronState, cron_of};
-use crate::others::{anacron_jobs, at_jobs, user_timers};
+use crate::others::{anacron_jobs, at_jobs, homeless_timers};
 use crate::source::MachineSource;
 use plan_owners::CronDaemon;
 use plan_rules::{Names, SourceKind};
@@ -14,17 +15,18 @@ use plan_services::{PlannedTimers, planned_timers};
 use plan_timers::{NotPlanned, Skipped, TimerSource, TimersFound, copy_of, machine_timers};
 use plan_tree::{Complete, Listed, Tree};
 use plan_units::{UnitDir, search_path};
+use plan_users::{UserTimers, user_timers};
 use std::alloc::{AllocError, Global};
 
 /// What is found on a machine.
 #[derive(Debug, Drop)]
 pub struct Machine {
-    /// The sources: crontabs, then the timers that are planned.
+    /// The sources: crontabs, then the timers that are planned, those of the system and then those of users who linger.
     pub sources: Vec<MachineSource>,
-    /// What is skipped: of crontabs, then of timers.
+    /// What is skipped: of crontabs, then of timers, and then of users' timers.
     pub skipped: Vec<Skipped>,
     /// What starts jobs but isn't planned: anacron, crontabs among the sources that cron ignores, timers whose unit can't start,
-    /// at, timers of users.
+    /// at, timers of users: those of users in etc/passwd, and then directories of other homes.
     pub unplanned: Vec<NotPlanned>,
     /// Whether crontabs are among the sources, but no program that reads crontabs is there.
     pub lacks_cron_daemon: bool,
@@ -32,8 +34,8 @@ pub struct Machine {
     pub cron_daemon: CronDaemon,
 }
 
-/// Returns what is found on a machine: its crontabs, and those of its timers that the boot reaches, or with `all` each one that
-/// has a file. Returns `None` if the boot reaches more than 10,000 units.
+/// Returns what is found on a machine: its crontabs, those of its timers that the boot reaches, or with `all` each one that has a
+/// file, and the timers of users who linger. Returns `None` if the boot, or the manager of a user, reaches more than 10,000 units.
 ///
 /// Of each file the first `most` bytes are read, or all if there are fewer. Read at least 1,048,577, one more than a text may
 /// have: the unit that a timer starts is found in the bytes that were read.
@@ -52,8 +54,13 @@ pub fn find_machine<T: Complete>(
     ensures too_many { T.is_known ≡ true → IfOk result (λ found.
         IfNone found (AreTooManyUnits (T.held tree.now))) }
 {
-    let listed = listed(alloc, tree)?;
-    find_in_tree(alloc, &listed, all, most)
+    match user_timers(alloc, tree, most)? {
+        None => Ok(None),
+        Some(users) => {
+            let listed = listed(alloc, tree)?;
+            find_in_tree(alloc, &listed, all, most, users)
+        }
+    }
 }
 
 // Returns a tree that holds what `tree` does, and knows what is in the directories of units.
@@ -69,38 +76,40 @@ fn listed<'a, T: Complete>(alloc: Global, tree: &'a T) -> Result<Listed<'a, T>, 
     Listed::new(alloc, tree, paths.as_slice())
 }
 
-// Does the same for a tree that is read at each path.
+// Does the same for a tree that is read at each path, with these timers of users.
 fn find_in_tree<T: Tree>(
     alloc: Global,
     tree: &T,
     all: bool,
     most: u64,
+    users: UserTimers,
 ) -> Result<Option<Machine>, AllocError>
     ensures found { T.is_known ≡ true → IfOk result (λ found.
-        IfSome found (λ machine. IsMachine (T.held tree.now) all most machine)) }
+        IfSome found (λ machine. IsMachineWith (T.held tree.now) all most (users_view users) machine)) }
     ensures too_many { T.is_known ≡ true → IfOk result (λ found.
-        IfNone found (AreTooManyUnits (T.held tree.now))) }
+        IfNone found (AreTooManyBootUnits (T.held tree.now))) }
 {
     let dirs = search_path(alloc, tree)?;
     match machine_timers(alloc, tree, dirs.as_slice(), all, most)? {
         None => Ok(None),
         Some(timers) => {
-            let machine = machine_of(alloc, tree, dirs.as_slice(), most, timers)?;
+            let machine = machine_of(alloc, tree, dirs.as_slice(), most, timers, users)?;
             Ok(Some(machine))
         }
     }
 }
 
-// Returns what is found on a machine with these timers.
+// Returns what is found on a machine with these timers, and these of users.
 fn machine_of<T: Tree>(
     alloc: Global,
     tree: &T,
     dirs: &[UnitDir],
     most: u64,
     timers: TimersFound,
+    users: UserTimers,
 ) -> Result<Machine, AllocError>
     ensures { T.is_known ≡ true → IfOk result (λ machine.
-        machine_view machine ≡ machine_of (T.held tree.now) dirs.now most (found_view timers)) }
+        machine_view machine ≡ machine_of (T.held tree.now) dirs.now most (found_view timers) (users_view users)) }
 {
     let crontabs = crontabs(alloc, tree, most)?;
     let cron = cron_of(alloc, tree, crontabs.found())?;
@@ -109,22 +118,41 @@ fn machine_of<T: Tree>(
         sources: timers,
         skipped: more,
     } = timers;
-    let skipped = all_skipped(alloc, skipped, more)?;
+    let UserTimers {
+        timers: of_users,
+        skipped: last,
+        unplanned,
+    } = users;
+    let skipped = all_skipped(alloc, skipped, more, last)?;
     let timers = planned_timers(alloc, tree, dirs, timers)?;
-    machine_with(alloc, tree, sources, skipped, timers, cron)
+    let timers = with_users(timers, of_users)?;
+    machine_with(alloc, tree, sources, skipped, timers, unplanned, cron)
 }
 
-// Returns what is found on a machine with these sources in crontabs and these timers.
+// Returns some timers, and then those of users.
+fn with_users(timers: PlannedTimers, users: Vec<TimerSource>) -> Result<PlannedTimers, AllocError>
+    ensures planned { IfOk result (λ all. all.planned.items ≡ timers.planned.items ++ users.items) }
+    ensures others { IfOk result (λ all. all.others.items ≡ timers.others.items) }
+{
+    let PlannedTimers { planned, others } = timers;
+    let mut planned = planned;
+    let mut users = users;
+    planned.append(&mut users)?;
+    Ok(PlannedTimers { planned, others })
+}
+
+// Returns what is found on a machine with these sources in crontabs, these timers, and what isn't planned of users.
 fn machine_with<T: Tree>(
     alloc: Global,
     tree: &T,
     sources: Vec<MachineSource>,
     skipped: Vec<Skipped>,
     timers: PlannedTimers,
+    users: Vec<NotPlanned>,
     cron: CronState,
 ) -> Result<Machine, AllocError>
     ensures { T.is_known ≡ true → IfOk result (λ machine. machine_view machine
-        ≡ machine_with (T.held tree.now) sources.items skipped.items timers.planned.items timers.others.items cron) }
+        ≡ machine_with (T.held tree.now) sources.items skipped.items timers.planned.items timers.others.items users.items cron) }
 {
     let PlannedTimers { planned, others } = timers;
     let CronState {
@@ -133,7 +161,7 @@ fn machine_with<T: Tree>(
         daemon,
     } = cron;
     let sources = with_timers(alloc, sources, planned)?;
-    let unplanned = unplanned_of(alloc, tree, ignored, others)?;
+    let unplanned = unplanned_of(alloc, tree, ignored, others, users)?;
     Ok(Machine {
         sources,
         skipped,
@@ -143,17 +171,20 @@ fn machine_with<T: Tree>(
     })
 }
 
-// Returns what is skipped in two lists, without what is said twice.
+// Returns what is skipped in three lists, without what is said twice.
 fn all_skipped(
     alloc: Global,
     skipped: Vec<Skipped>,
     more: Vec<Skipped>,
+    last: Vec<Skipped>,
 ) -> Result<Vec<Skipped>, AllocError>
-    ensures { IfOk result (λ once. once.items ≡ distinct (skipped.items ++ more.items)) }
+    ensures { IfOk result (λ once. once.items ≡ distinct ((skipped.items ++ more.items) ++ last.items)) }
 {
     let mut skipped = skipped;
     let mut more = more;
+    let mut last = last;
     skipped.append(&mut more)?;
+    skipped.append(&mut last)?;
     distinct(alloc, skipped)
 }
 
@@ -191,25 +222,28 @@ fn timer_source(alloc: Global, timer: TimerSource) -> Result<MachineSource, Allo
     Ok(MachineSource::new(SourceKind::Timer, name, parts))
 }
 
-// Returns what isn't planned on a machine, with these crontabs and these timers.
+// Returns what isn't planned on a machine, with these crontabs, these timers and these of users.
 fn unplanned_of<T: Tree>(
     alloc: Global,
     tree: &T,
     crontabs: Vec<NotPlanned>,
     timers: Vec<NotPlanned>,
+    users: Vec<NotPlanned>,
 ) -> Result<Vec<NotPlanned>, AllocError>
     ensures { T.is_known ≡ true → IfOk result (λ unplanned.
-        unplanned.items ≡ unplanned_of (T.held tree.now) crontabs.items timers.items) }
+        unplanned.items ≡ unplanned_of (T.held tree.now) crontabs.items timers.items users.items) }
 {
     let mut crontabs = crontabs;
     let mut timers = timers;
+    let mut users = users;
     let mut unplanned = list_of(alloc, anacron_jobs(alloc, tree)?)?;
     unplanned.append(&mut crontabs)?;
     unplanned.append(&mut timers)?;
     let mut at = at_jobs(alloc, tree)?;
     unplanned.append(&mut at)?;
-    let mut users = user_timers(alloc, tree)?;
     unplanned.append(&mut users)?;
+    let mut homeless = homeless_timers(alloc, tree)?;
+    unplanned.append(&mut homeless)?;
     Ok(unplanned)
 }
 

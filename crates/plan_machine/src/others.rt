@@ -1,13 +1,16 @@
 //! What starts jobs on a machine but isn't planned.
 
 ghost use Rattle.std.specs.Prelude.{◌≡◌, true, IfOk, map};
-ghost use Rattle.plan_machine.specs.Others.{anacron_jobs, at_jobs, at_paths, has_at_job, has_file, has_timer, has_timer_below, has_user_timer, is_file_at, is_timer_below, is_timer_entry, is_unit_entry, user_timers, user_timers_in, user_timers_of, user_units};
+ghost use Rattle.std.specs.List.{list_any};
+ghost use Rattle.std.specs.Str.{bytes_eq};
+ghost use Rattle.plan_machine.specs.Others.{anacron_jobs, at_jobs, at_paths, has_at_job, has_file, has_timer, has_timer_below, has_user_timer, homeless_timers, is_file_at, is_timer_below, is_timer_entry, is_unit_entry, timers_of_home, timers_of_homes, user_units};
 
 use crate::directories::{is_directory, names_at, names_in};
 use crate::files::{is_file, lead_of};
 use plan_texts::Text;
 use plan_timers::{NotPlanned, Unplanned, copy_of};
 use plan_tree::{End, Name, Node, Place, Tree};
+use plan_users::user_homes;
 use std::alloc::{AllocError, Global};
 
 /// Returns the table of anacron, if there is one.
@@ -102,49 +105,57 @@ fn has_file<T: Tree>(
     Ok(false)
 }
 
-/// Returns the directories of users' units that have timers: those of the homes in the order of their names, then that
-/// of root.
+/// Returns the directories of users' units that have timers, of homes that aren't the home of a user in etc/passwd: those in home
+/// in the order of their names, then that of root.
 ///
 /// # Errors
 ///
 /// `AllocError` if an allocation fails.
-pub fn user_timers<T: Tree>(alloc: Global, tree: &T) -> Result<Vec<NotPlanned>, AllocError>
-    ensures { T.is_known ≡ true → IfOk result (λ found. found.items ≡ user_timers (T.held tree.now)) }
+pub fn homeless_timers<T: Tree>(alloc: Global, tree: &T) -> Result<Vec<NotPlanned>, AllocError>
+    ensures { T.is_known ≡ true → IfOk result (λ found. found.items ≡ homeless_timers (T.held tree.now)) }
 {
+    let known = user_homes(alloc, tree)?;
     let end = lead_of(alloc, tree, "home")?;
     let names = names_at(alloc, tree, &end)?;
-    let mut found = user_timers_of(alloc, tree, names.as_slice())?;
-    let mut more = user_timers_in(alloc, tree, "root")?;
+    let mut found = timers_of_homes(alloc, tree, known.as_slice(), names.as_slice())?;
+    let mut more = timers_of_home(alloc, tree, known.as_slice(), "root")?;
     found.append(&mut more)?;
     Ok(found)
 }
 
-// Returns those of homes with these names.
-fn user_timers_of<T: Tree>(
+// Returns those of homes with these names, without those that are known.
+fn timers_of_homes<T: Tree>(
     alloc: Global,
     tree: &T,
+    known: &[Place],
     names: &[Name],
 ) -> Result<Vec<NotPlanned>, AllocError>
-    ensures { T.is_known ≡ true → IfOk result (λ found. found.items ≡ user_timers_of (T.held tree.now) names.now) }
+    ensures { T.is_known ≡ true → IfOk result (λ found.
+        found.items ≡ timers_of_homes (T.held tree.now) known.now names.now) }
 {
     let home = Place::at(alloc, "home")?;
     let mut found = Vec::new(alloc);
     for name in names {
         let path = home.child(alloc, name.as_str())?;
-        let mut more = user_timers_in(alloc, tree, path.as_str())?;
+        let mut more = timers_of_home(alloc, tree, known, path.as_str())?;
         found.append(&mut more)?;
     }
     Ok(found)
 }
 
-// Returns the directory of the units of a home, if it has timers.
-fn user_timers_in<T: Tree>(
+// Returns the directory of the units of a home, if it has timers and the home isn't known.
+fn timers_of_home<T: Tree>(
     alloc: Global,
     tree: &T,
+    known: &[Place],
     home: &str,
 ) -> Result<Vec<NotPlanned>, AllocError>
-    ensures { T.is_known ≡ true → IfOk result (λ found. found.items ≡ user_timers_in (T.held tree.now) home.now) }
+    ensures { T.is_known ≡ true → IfOk result (λ found.
+        found.items ≡ timers_of_home (T.held tree.now) known.now home.now) }
 {
+    if is_among(known, home) {
+        return Ok(Vec::new(alloc));
+    }
     let path = user_units(alloc, home)?;
     let end = lead_of(alloc, tree, path.as_str())?;
     let mut found = Vec::new(alloc);
@@ -155,6 +166,13 @@ fn user_timers_in<T: Tree>(
         })?;
     }
     Ok(found)
+}
+
+// Returns whether a path is one of these.
+fn is_among(places: &[Place], path: &str) -> bool
+    ensures { result ≡ list_any (λ place. bytes_eq place path.now) places.now }
+{
+    places.iter().any(|place| place.as_str() == path)
 }
 
 // Returns the directory of a user's units.

@@ -1,6 +1,6 @@
 use Rattle.std.proofs.Common.{arith}
 use Rattle.std.proofs.lemmas.Grind.{common_steps}
-use Rattle.plan_machine.proofs.others.user_timers_of.Goals as goal
+use Rattle.plan_machine.proofs.others.timers_of_homes.Goals as goal
 
 pub loop-name-preserved : goal.loop-name-preserved
 loop-name-preserved g c = grind (arith, common_steps)
