@@ -8,3 +8,4 @@ pub mod RootLemmas
 pub mod ScriptLemmas
 pub mod ShownLemmas
 pub mod CountLemmas
+pub mod IdleLaws

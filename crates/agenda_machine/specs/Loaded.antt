@@ -1,9 +1,9 @@
 -- The sources of a machine as a plan reads them: only what its daemons load, and without its idle jobs (agenda).
-use Rattle.std.specs.Prelude.{ℕ, Bool, true, false, List, [], ◌∷◌, ◌++◌, map, Option, None, Some}
+use Rattle.std.specs.Prelude.{◌≡◌, ℕ, Bool, true, false, List, [], ◌∷◌, ◌++◌, filter, map, Option, None, Some, Ok}
 use Rattle.std.specs.List.{cons_option, flat_map}
 use Rattle.std.specs.Option.{option_map}
 use Rattle.agenda_sources.specs.declared.Source.{Source}
-use Rattle.agenda_machine.specs.Idle.{idle_reports, kept_text}
+use Rattle.agenda_machine.specs.Idle.{idle_reports, kept_text, whose_crontab}
 use Rattle.agenda_machine.specs.Monotonic.{with_monotonic}
 use Rattle.plan_loads.specs.Loading.{loading_of}
 use Rattle.plan_loads.specs.Texts.{KnownLoading}
@@ -11,6 +11,11 @@ use Rattle.plan_machine.specs.Source.{SourceParts}
 use Rattle.plan_machine.specs.declared.CronDaemon.{CronDaemon}
 use Rattle.plan_machine.specs.declared.NotPlanned.{NotPlanned}
 use Rattle.plan_machine.specs.declared.machine.Machine.{Machine}
+use Rattle.plan_rules.specs.declared.Kind.{Kind}
+use Rattle.plan_rules.specs.Crontab.{entries_of_lines}
+use Rattle.plan_rules.specs.FileText.{text_reading}
+use Rattle.plan_runs.specs.Idle.{is_active}
+use Rattle.plan_texts.specs.Lines.{lines}
 use Rattle.plan_tree.specs.Tree.{Held}
 
 -- ---- what is loaded
@@ -66,3 +71,20 @@ idle_jobs held machine = flat_map (idle_of held false machine.unplanned.items ma
 abbrev pub unplanned_with_idle : Held → (idle : Bool) → Machine → List NotPlanned
 unplanned_with_idle held true machine = unplanned_jobs machine
 unplanned_with_idle held false machine = unplanned_jobs machine ++ idle_jobs held machine
+
+-- ---- the law
+
+-- the text of a crontab has exactly the entries that its text with idle jobs has, but those of the idle jobs
+abbrev pub HasOtherEntries : Held → Kind → Source → (label : List ℕ) → Type 0
+HasOtherEntries held kind source label =
+    entries_of_lines label kind (lines (kept_source held false source).bytes)
+    ≡ filter (λ entry. is_active (kept_text held false source.kind source.bytes).idle entry) (entries_of_lines label kind (lines source.bytes))
+
+-- a plan reads the same sources, in the same order, with and without idle jobs, and without them each crontab has exactly the entries of
+-- the other jobs
+abbrev pub IdleJobsOfMachineAreLeftOut : Type 0
+IdleJobsOfMachineAreLeftOut =
+    (held : Held) (machine : Machine) →
+    (planned_sources held false machine ≡ map (kept_source held false) (planned_sources held true machine))
+    × ((kind : Kind) (source : Source) (label : List ℕ) → whose_crontab source.kind ≡ Some kind →
+    text_reading source.bytes ≡ Ok source.bytes → HasOtherEntries held kind source label)

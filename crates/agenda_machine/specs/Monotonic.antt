@@ -6,7 +6,7 @@ use Rattle.plan_check.specs.Timers.{is_only_monotonic}
 use Rattle.plan_machine.specs.Source.{SourceParts}
 use Rattle.plan_machine.specs.declared.NotPlanned.{NotPlanned}
 use Rattle.plan_machine.specs.declared.Unplanned.{Unplanned}
-use Rattle.plan_machine.specs.declared.Unplanned.TheVariants.{Anacron, Monotonic, AtJobs, UserTimers, UnitMissing, UnitMasked, UnitIdle, NotLoaded, LineNotLoaded, Idle}
+use Rattle.plan_machine.specs.declared.Unplanned.TheVariants.{Anacron, Monotonic, AtJobs, UserTimers, NotLingering, UnitMissing, UnitMasked, UnitIdle, NotLoaded, LineNotLoaded, Idle}
 use Rattle.plan_parts.specs.Files.{FileBytes}
 use Rattle.plan_parts.specs.Parts.{files_of, text_of}
 use Rattle.plan_rules.specs.TimerEntries.{timer_lines}
@@ -54,6 +54,7 @@ is_first (UnitIdle unit) = true
 is_first Monotonic = false
 is_first AtJobs = false
 is_first UserTimers = false
+is_first (NotLingering user) = false
 is_first (NotLoaded why) = true
 is_first (LineNotLoaded line why) = true
 is_first (Idle line why) = true

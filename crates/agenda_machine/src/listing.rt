@@ -5,19 +5,20 @@ ghost use Rattle.std.specs.List.{flat_map};
 ghost use Rattle.plan_streams.specs.Stream.{Puts};
 ghost use Rattle.plan_streams.specs.Writer.{Takes};
 ghost use Rattle.plan_write.specs.Json.{json_string};
-ghost use Rattle.agenda_machine.specs.Listing.{drop_ins, part_line, part_object, part_text, source_text, sources_text};
+ghost use Rattle.agenda_machine.specs.Listing.{drop_in_kind, drop_ins, is_of_user, kind_of, part_line, part_object, part_text, source_text, sources_text};
 ghost use Rattle.agenda_machine.specs.Paths.{below};
 
 use crate::paths::put_path;
 use plan_machine::MachineSource;
 use plan_parts::Part;
+use plan_rules::{SourceKind, timer_user};
 use plan_streams::{Stream, TextWriter, WriteFault};
 use plan_write::{put_string, put_text};
 
 /// Writes the sources of a machine, a line for each, in order: its kind, a tab, its name, a tab, and its path.
 ///
-/// After a timer there is such a line of the kind `drop-in` for each of its drop-ins, with the timer's name. With `json`
-/// each line is an object with the members `kind`, `name` and `path`.
+/// After a timer there is such a line of the kind `drop-in` for each of its drop-ins, with the timer's name. The kinds of a user's
+/// timer are `user-timer` and `user-drop-in`. With `json` each line is an object with the members `kind`, `name` and `path`.
 ///
 /// A path is `root`, a `/`, and the path on the machine. In a line of text, control characters in it are written as
 /// `\xNN` for each of their bytes, and a backslash as `\\`. This requests no memory. The stream is flushed once, at the
@@ -66,24 +67,56 @@ fn put_source<S: Stream>(
     ensures { Takes S.holds S.takes_all lines.old lines.new (source_text json root.now source.now) }
 {
     if let Some((first, more)) = source.parts().files().split_first() {
-        let kind = source.kind().option();
-        put_part(root, kind, source.name(), first, json, lines);
-        put_drop_ins(root, source.name(), more, json, lines);
+        put_part(root, kind_of(source), source.name(), first, json, lines);
+        put_drop_ins(root, drop_in_kind(source), source.name(), more, json, lines);
+    }
+}
+
+// Returns what the first file of a source is called.
+fn kind_of(source: &MachineSource) -> &'static str
+    ensures { result.now ≡ kind_of source.now }
+{
+    if is_of_user(source) {
+        "user-timer"
+    } else {
+        source.kind().option()
+    }
+}
+
+// Returns what the drop-ins of a source are called.
+fn drop_in_kind(source: &MachineSource) -> &'static str
+    ensures { result.now ≡ drop_in_kind source.now }
+{
+    if is_of_user(source) {
+        "user-drop-in"
+    } else {
+        "drop-in"
+    }
+}
+
+// Returns whether a source is the timer of a user.
+fn is_of_user(source: &MachineSource) -> bool
+    ensures { result ≡ is_of_user source.now }
+{
+    match source.kind() {
+        SourceKind::Timer => timer_user(source.name()).is_some(),
+        _ => false,
     }
 }
 
 // Puts the lines of drop-ins, in order.
 fn put_drop_ins<S: Stream>(
     root: &str,
+    kind: &str,
     name: &str,
     parts: &[Part],
     json: bool,
     lines: &mut TextWriter<'_, S>,
 )
-    ensures { Takes S.holds S.takes_all lines.old lines.new (drop_ins json root.now name.now parts.now) }
+    ensures { Takes S.holds S.takes_all lines.old lines.new (drop_ins json root.now kind.now name.now parts.now) }
 {
     for part in parts {
-        put_part(root, "drop-in", name, part, json, lines);
+        put_part(root, kind, name, part, json, lines);
     }
 }
 

@@ -4,7 +4,7 @@ ghost use Rattle.std.specs.Prelude.{◌≡◌, ◌++◌, [], true, false, IfOk, 
 ghost use Rattle.std.specs.List.{cons_option, flat_map};
 ghost use Rattle.std.specs.Option.{option_map};
 ghost use Rattle.agenda_machine.specs.Idle.{idle_reports};
-ghost use Rattle.agenda_machine.specs.Loaded.{idle_jobs, idle_of, kept_source, loaded_from, loaded_source, planned_sources, unloaded_from, unplanned_with_idle};
+ghost use Rattle.agenda_machine.specs.Loaded.{IdleJobsOfMachineAreLeftOut, idle_jobs, idle_of, kept_source, loaded_from, loaded_source, planned_sources, unloaded_from, unplanned_with_idle};
 ghost use Rattle.plan_loads.specs.Loading.{loading_of};
 
 use crate::idle::{Kept, kept_of};
@@ -24,6 +24,14 @@ pub struct LoadedMachine {
     /// The sources of which its daemons load anything, with the texts that a plan reads of them.
     pub planned: Sources,
 }
+
+/// States the law of idle jobs: a plan reads the same sources with and without them, and without them each crontab has exactly
+/// the entries of the other jobs.
+///
+/// The function does nothing: its contract is the law.
+pub fn idle_jobs_of_machine_are_left_out()
+    ensures { IdleJobsOfMachineAreLeftOut }
+{}
 
 // What the daemons of a machine load of its sources, as a plan reads it.
 #[derive(Drop)]

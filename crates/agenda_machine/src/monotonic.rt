@@ -87,7 +87,10 @@ fn comes_before(one: &NotPlanned) -> bool
         | Unplanned::NotLoaded(_)
         | Unplanned::LineNotLoaded(..)
         | Unplanned::Idle(..) => true,
-        Unplanned::Monotonic | Unplanned::AtJobs | Unplanned::UserTimers => false,
+        Unplanned::Monotonic
+        | Unplanned::AtJobs
+        | Unplanned::UserTimers
+        | Unplanned::NotLingering(_) => false,
     }
 }
 

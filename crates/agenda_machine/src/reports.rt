@@ -198,6 +198,9 @@ fn put_why_unplanned<S: Stream>(why: &Unplanned, lines: &mut TextWriter<'_, S>)
         Unplanned::Monotonic => put_shown("starts by OnBootSec= or the like", lines),
         Unplanned::AtJobs => put_shown("jobs of at", lines),
         Unplanned::UserTimers => put_shown("user timers", lines),
+        Unplanned::NotLingering(user) => {
+            put_around("user ", user.as_str(), " does not linger", lines)
+        }
         Unplanned::UnitMissing(unit) => put_around(
             "its unit ",
             unit.as_str(),

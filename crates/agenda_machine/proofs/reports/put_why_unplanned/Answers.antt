@@ -1,7 +1,10 @@
 use Rattle.agenda_machine.proofs.reports.put_why_unplanned.Goals as goal
 
 pub returns-in-UnitMissing : goal.returns-in-UnitMissing
-returns-in-UnitMissing g c = rw c.in-UnitMissing.is (rw c.as_str.ensures at c.put_around.ensures)
+returns-in-UnitMissing g c = rw c.in-UnitMissing.is (rw c.as_str-in-UnitMissing.ensures at c.put_around-in-UnitMissing.ensures)
+
+pub returns-in-NotLingering : goal.returns-in-NotLingering
+returns-in-NotLingering g c = rw c.in-NotLingering.is (rw c.as_str.ensures at c.put_around.ensures)
 
 pub returns-in-UnitMasked : goal.returns-in-UnitMasked
 returns-in-UnitMasked g c = rw c.in-UnitMasked.is (rw c.as_str-in-UnitMasked.ensures at c.put_around-in-UnitMasked.ensures)
