@@ -403,7 +403,7 @@ END
 # Reports links of the pages below the directory $1 to files and headings that aren't there.
 package_dead_links() {
   (cd "$1" && find . -printf '%P\n' | document_awk -f "$document_parts/markdown.awk" -f "$document_parts/links.awk" reads=paths - \
-    reads=pages DIFFERENCES.md FORMATS.md IDLE.md examples/README.md examples/*/README.md)
+    reads=pages DIFFERENCES.md FORMATS.md IDLE.md USERS.md examples/README.md examples/*/README.md)
 }
 
 # Writes the text of the page $1 without the targets of links.
@@ -420,7 +420,7 @@ package_pages() {
     to=${from#docs/}
     diff <(package_text "$top/$from") <(package_text "$1/$to") >"$work/told" 2>&1
     count "${1#"$package_dir/"}/$to has the text of $from"
-  done < <(printf '%s\n' docs/DIFFERENCES.md docs/FORMATS.md docs/IDLE.md && cd "$top" && find examples -name '*.md')
+  done < <(printf '%s\n' docs/DIFFERENCES.md docs/FORMATS.md docs/IDLE.md docs/USERS.md && cd "$top" && find examples -name '*.md')
   package_dead_links "$1" >"$work/told" 2>&1
   count "the links of the pages in ${1#"$package_dir/"}"
 }
@@ -813,6 +813,7 @@ package_lists "the files of the archive" "$package_archive/" share/doc/agenda <<
 644 share/doc/agenda/DIFFERENCES.md
 644 share/doc/agenda/FORMATS.md
 644 share/doc/agenda/IDLE.md
+644 share/doc/agenda/USERS.md
 644 share/doc/agenda/copyright
 755 share/fish/
 755 share/fish/vendor_completions.d/
@@ -865,6 +866,7 @@ if ! passed_over "the package" dpkg-deb readelf; then
 644 usr/share/doc/agenda/DIFFERENCES.md
 644 usr/share/doc/agenda/FORMATS.md
 644 usr/share/doc/agenda/IDLE.md
+644 usr/share/doc/agenda/USERS.md
 644 usr/share/doc/agenda/changelog.gz
 644 usr/share/doc/agenda/copyright
 755 usr/share/fish/
@@ -950,6 +952,7 @@ package_installed <<'ROWS'
 644 usr/local/share/doc/agenda/DIFFERENCES.md
 644 usr/local/share/doc/agenda/FORMATS.md
 644 usr/local/share/doc/agenda/IDLE.md
+644 usr/local/share/doc/agenda/USERS.md
 644 usr/local/share/doc/agenda/copyright
 755 usr/local/share/man/
 755 usr/local/share/man/man1/

@@ -2,7 +2,7 @@
 # Which files of the project are installed, and where. bin/install and bin/package source this file.
 
 # The pages of docs/ that are installed.
-installed_pages="DIFFERENCES.md FORMATS.md IDLE.md"
+installed_pages="DIFFERENCES.md FORMATS.md IDLE.md USERS.md"
 
 # Sets `program` to the program that is installed, with all symlinks resolved. AGENDA_PROGRAM names it. Without that variable it is the one
 # that bin/build proves and builds.
