@@ -18,7 +18,7 @@ use Rattle.plan_changes.specs.Changes.{AreAscending, copies, is_lacking, is_same
 use Rattle.plan_changes.specs.Counts.{left, no_count}
 use Rattle.plan_changes.specs.Keys.{AreEachOnce, AreInOrder, AreKeysOf, HaveStayed, IsKeyOf, copies_of, is_same_key}
 use Rattle.plan_changes.proofs.CompareLemmas.{change_if, within_list}
-use Rattle.plan_changes.proofs.CountLemmas.{count_cons, count_push, times}
+use Rattle.plan_changes.proofs.CountLemmas.{count_cons, count_push, fewer_before, fewer_of_all, times}
 
 -- ---- copies of a start are copies of its key
 
@@ -127,7 +127,8 @@ pub record IsCounted (others keys : List Key) (at place low : ℕ) (counts : Lis
   pub seen : (i : ℕ) → i < at → (key_in others i).second ≤ low
   pub coming : (i : ℕ) → at ≤ i → i < length others → low ≤ (key_in others i).second
   pub done : (i : ℕ) → i < place → (key_in keys i).second ≤ low
-  pub apart : (i j : ℕ) → i < place → at ≤ j → j < length others → (key_in keys i).second < (key_in others j).second
+  pub paired : (key : Key) → at < length others → (key_in others at).second ≤ key.second →
+      copies_of key (take place keys) ≤ copies_of key (take at others)
 
 nothing_left : (n : ℕ) (key : Key) → left (replicate n no_count) key ≡ 0
 nothing_left n key =
@@ -149,7 +150,7 @@ none_counted others keys n counts are = record {
   seen = λ i lt. absurd (omega arith);
   coming = λ i from lt. omega arith;
   done = λ i lt. absurd (omega arith);
-  apart = λ i j lt from within. absurd (omega arith);
+  paired = λ key within late. omega arith;
 }
 
 -- no key of an earlier second is a copy
@@ -214,8 +215,12 @@ added_more others keys at place low counts other lt inside ordered is within cou
   lefts = lefts;
   seen = λ i before. seen i (omega arith);
   coming = λ i from before. subst (λ o. o.second ≤ (key_in others i).second) here (ordered at i no_key (omega arith) before);
-  done = λ i before. (let early = apart i before in omega (arith, early));
-  apart = λ i j before from within. counted.apart i j before (omega arith) within;
+  done = λ i before. (let early = counted.done i before in omega (arith, early, low_le));
+  paired = λ key within late.
+      let first = ordered at (at + 1) no_key (omega arith) within in
+      let few = counted.paired key lt (omega (arith, first, late)) in
+      let more = fewer_before (is_same_key key) others at (at + 1) (omega arith) in
+      omega (arith, few, more);
 }
   where
     here : key_in others at ≡ other
@@ -223,9 +228,6 @@ added_more others keys at place low counts other lt inside ordered is within cou
 
     low_le : low ≤ other.second
     low_le = subst (λ o. low ≤ o.second) here (counted.coming at (omega arith) lt)
-
-    apart : (i : ℕ) → i < place → (key_in keys i).second < other.second
-    apart i before = subst (λ o. (key_in keys i).second < o.second) here (counted.apart i at before (omega arith) lt)
 
     seen : (i : ℕ) → i ≤ at → (key_in others i).second ≤ other.second
     seen i le = subst (λ o. (key_in others i).second ≤ o.second) here (ordered i at no_key le lt)
@@ -237,10 +239,10 @@ added_more others keys at place low counts other lt inside ordered is within cou
           let set = set_same other key (left counts other + 1) counts within (ap (λ k. is_same_key k other) same ∙ is_own other) in
           let more = count_by_more_yes (is_same_key key) others at no_key lt
           ((λ i. is_same_key (same i) (here i)) ∙ is_own other) in
-          let none = no_copies key keys place inside (λ i before. (let early = apart i before in omega (arith, early, le))) in
+          let few = counted.paired key lt (subst (λ o. o.second ≤ key.second) (sym here) le) in
           let old = counted.lefts key (omega (arith, low_le, le)) in
           let own : left counts key ≡ left counts other = ap (left counts) same in
-          omega (arith, set, more, none, old, own)
+          omega (arith, set, more, few, old, own)
       | inr (inl differ) ↦
           let set = set_other other key (left counts other + 1) counts differ in
           let more = count_by_more_no (is_same_key key) others at no_key lt
@@ -277,7 +279,7 @@ taken_more others keys at place low counts key taken lt low_le ordered in_order 
   seen = λ i before. (let early = counted.seen i before in omega (arith, early, low_le));
   coming = λ i from before. (let later = late i from before in omega (arith, later));
   done = done;
-  apart = apart;
+  paired = paired;
 }
   where
     here : key_in keys place ≡ key
@@ -292,11 +294,13 @@ taken_more others keys at place low counts key taken lt low_le ordered in_order 
     done : (i : ℕ) → i < place + 1 → (key_in keys i).second ≤ key.second
     done i before = subst (λ k. (key_in keys i).second ≤ k.second) here (in_order i place no_key (omega arith) lt)
 
-    apart : (i j : ℕ) → i < place + 1 → at ≤ j → j < length others → (key_in keys i).second < (key_in others j).second
-    apart i j before from inside =
-        let early = done i before in
-        let later = late j from inside in
-        omega (arith, early, later)
+    paired : (other : Key) → at < length others → (key_in others at).second ≤ other.second →
+        copies_of other (take (place + 1) keys) ≤ copies_of other (take at others)
+    paired other inside le =
+        let few = counted.paired other inside le in
+        let differ : other.second ≢ key.second = λ same. (let first = passed inside in omega (arith, first, le, same)) in
+        let same = count_by_more_no (is_same_key other) keys place no_key lt (ap (is_same_key other) here ∙ other_second other key differ) in
+        omega (arith, few, same)
 
     lefts : (taken : Bool) → taken ≡ nat_lt 0 (left counts key) → (other : Key) → key.second ≤ other.second →
         left (after_taken taken key counts) other ≡ copies_of other (take at others) - copies_of other (take (place + 1) keys)
@@ -336,6 +340,68 @@ taken_more others keys at place low counts key taken lt low_le ordered in_order 
             (left (after_taken taken key counts) other ≡ 0) ⊎ (left (after_taken taken key counts) other ≡ left counts other)
         taken_number true runs differ = inl (set_number key other (left counts key - 1) counts within runs differ)
         taken_number false runs differ = inr refl
+
+-- one more of both is the same key
+pub paired_more :
+    (others keys : List Key) (at place low : ℕ) (counts : List Count) (key : Key) → at < length others → place < length keys →
+    AreInOrder others → AreInOrder keys → key ≡ get_or others at key → key ≡ get_or keys place key →
+    IsCounted others keys at place low counts → IsCounted others keys (at + 1) (place + 1) key.second counts
+paired_more others keys at place low counts key within lt ordered in_order other_is is counted = record {
+  inside = omega arith;
+  lefts = λ other le.
+      let old = counted.lefts other (omega (arith, low_le, le)) in
+      let both = both_more other in
+      omega (arith, old, both);
+  seen = λ i before. subst (λ o. (key_in others i).second ≤ o.second) there (ordered i at no_key (omega arith) within);
+  coming = λ i from before. subst (λ o. o.second ≤ (key_in others i).second) there (ordered at i no_key (omega arith) before);
+  done = λ i before. subst (λ k. (key_in keys i).second ≤ k.second) here (in_order i place no_key (omega arith) lt);
+  paired = λ other inside le.
+      let next = ordered at (at + 1) no_key (omega arith) inside in
+      let few = counted.paired other within (omega (arith, next, le)) in
+      let both = both_more other in
+      omega (arith, few, both);
+}
+  where
+    here : key_in keys place ≡ key
+    here = sym (get_or_read keys place key lt is no_key)
+
+    there : key_in others at ≡ key
+    there = sym (get_or_read others at key within other_is no_key)
+
+    low_le : low ≤ key.second
+    low_le = subst (λ o. low ≤ o.second) there (counted.coming at (omega arith) within)
+
+    both_more : (other : Key) → (n : ℕ) × (copies_of other (take (at + 1) others) ≡ copies_of other (take at others) + n)
+        × (copies_of other (take (place + 1) keys) ≡ copies_of other (take place keys) + n)
+    both_more other = elim (cases_Bool (is_same_key other key)) [
+      | inl same ↦ (
+        1,
+        count_by_more_yes (is_same_key other) others at no_key within (ap (is_same_key other) there ∙ same),
+        count_by_more_yes (is_same_key other) keys place no_key lt (ap (is_same_key other) here ∙ same),
+      )
+      | inr differ ↦ (
+        0,
+        (let more = count_by_more_no (is_same_key other) others at no_key within (ap (is_same_key other) there ∙ differ) in omega (arith, more)),
+        (let more = count_by_more_no (is_same_key other) keys place no_key lt (ap (is_same_key other) here ∙ differ) in omega (arith, more)),
+      )
+    ]
+
+not_lacking : (m k : ℕ) → k < m → false ≡ nat_le m k
+not_lacking m k lt = grind (arith, nat_tests)
+
+-- a start isn't lacking if the next of the others is the same
+pub paired_by_keys :
+    (texts : List (List ℕ)) (lines other_lines : List Line) (keys others : List Key) (at place low : ℕ) (counts : List Count) (key : Key)
+    (line : Line) → AreEachOnce texts → AreKeysOf texts lines keys → AreKeysOf texts other_lines others → IsKeyOf texts line key →
+    at < length others → key ≡ get_or others at key → IsCounted others keys at place low counts → false ≡ is_lacking other_lines lines place line
+paired_by_keys texts lines other_lines keys others at place low counts key line once are are_others own within other_is counted =
+    let there : key_in others at ≡ key = sym (get_or_read others at key within other_is no_key) in
+    let few = counted.paired key within (let same : (key_in others at).second ≡ key.second = ap (λ k. k.second) there in omega (arith, same)) in
+    let more = count_by_more_yes (is_same_key key) others at no_key within (ap (is_same_key key) there ∙ is_own key) in
+    let most = fewer_of_all (is_same_key key) others (at + 1) in
+    let here = copies_by_keys texts line key (take place lines) (take place keys) once own (first_keys texts place lines keys are) in
+    let all = copies_by_keys texts line key other_lines others once own are_others in
+    not_lacking (copies line other_lines) (copies line (take place lines)) (omega (arith, few, more, most, here, all))
 
 lacks : (m k n : ℕ) → n ≡ m - k → not (nat_lt 0 n) ≡ nat_le m k
 lacks m k n is = grind (arith, nat_tests)

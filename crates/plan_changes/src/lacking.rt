@@ -1,6 +1,6 @@
 //! The starts of a list that another list lacks.
 
-ghost use Rattle.std.specs.Prelude.{◌≡◌, ◌++◌, List, OnOk, ℕ};
+ghost use Rattle.std.specs.Prelude.{◌≡◌, ◌++◌, IsTrue, List, OnOk, ℕ};
 ghost use Rattle.plan_baseline.specs.Line.{Line};
 ghost use Rattle.plan_changes.specs.Changes.{changes_of};
 ghost use Rattle.plan_changes.specs.Keys.{AreBelow, AreEachOnce, AreInOrder, AreKeysOf};
@@ -35,6 +35,11 @@ pub(crate) fn push_lacking(
     let mut at = 0;
     for place in 0..keys.len() {
         let key = keys[place];
+        // Most often both lists go on with the same start.
+        if at < others.len() && is_same(others[at], key) {
+            at += 1;
+            continue;
+        }
         while at < others.len() && others[at].second <= key.second {
             counts.add(others[at]);
             at += 1;
@@ -49,4 +54,12 @@ pub(crate) fn push_lacking(
         }
     }
     Ok(())
+}
+
+// Returns whether two keys are the same.
+#[inline(always)]
+fn is_same(one: Key, other: Key) -> bool
+    ensures { IsTrue result → one ≡ other }
+{
+    one.second == other.second && one.runs == other.runs
 }

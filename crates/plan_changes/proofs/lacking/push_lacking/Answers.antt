@@ -1,11 +1,11 @@
-use Rattle.std.proofs.Common.{◌≡◌, ◌++◌, ℕ, ◌+◌, ◌-◌, ◌<◌, ◌≤◌, List, length, not, slice_index_or, arith, ap, sym, subst, ◌∙◌, inl, inr, append-nil, Vec, Global}
+use Rattle.std.proofs.Common.{◌≡◌, ◌++◌, ℕ, ◌+◌, ◌-◌, ◌<◌, ◌≤◌, List, false, length, not, slice_index_or, arith, ap, sym, subst, ◌∙◌, inl, inr, append-nil, Vec, Global}
 use Rattle.std.proofs.lemmas.List.{get_or_default, length-replicate, length-set, take_all}
 use Rattle.plan_baseline.specs.Line.{Line}
 use Rattle.plan_changes.specs.declared.change.Change.{Change}
 use Rattle.plan_changes.specs.Counts.{no_count}
 use Rattle.plan_changes.specs.Keys.{AreEachOnce, AreKeysOf}
 use Rattle.plan_changes.proofs.CompareLemmas.{appended_more, change_if, changes_before}
-use Rattle.plan_changes.proofs.KeyLemmas.{IsCounted, added_more, below_at, key_at, key_in, lacking_by_keys, left_few, no_key, none_counted, pushed_if, pushed_none, same_many, still_as_many, taken_more}
+use Rattle.plan_changes.proofs.KeyLemmas.{IsCounted, added_more, below_at, key_at, key_in, lacking_by_keys, left_few, no_key, none_counted, paired_by_keys, paired_more, pushed_if, pushed_none, same_many, still_as_many, taken_more}
 use Rattle.plan_changes.proofs.lacking.push_lacking.Goals as goal
 use Rattle.plan_changes.proofs.lacking.push_lacking.Goals.{then-loop-at-test+else-others-at, else-loop-at-test, then-not-take+in_ok-push, else-not-take}
 
@@ -19,6 +19,35 @@ loop-place-init c = record {
   texts = ap length c.in_ok-counts.ensures ∙ length-replicate c.args.texts no_count;
   changes = λ all lines other_lines once are are_others. sym (append-nil c.args.changes.now.items);
 }
+
+pub loop-place-preserved-then-is_same : goal.loop-place-preserved-then-is_same
+loop-place-preserved-then-is_same c =
+    let others = c.args.others.now in
+    let keys = c.args.keys.now in
+    let at = c.loop-place.at in
+    let place = c.loop-place.place in
+    let key = slice_index_or keys place no_key in
+    let (low, le, counted) = c.loop-place.invariant.counted in
+    let lt = c.loop-place-test.true in
+    let within : at < length others = c.if-at-others.true in
+    let is = get_or_default keys place no_key key lt in
+    let same : slice_index_or others at no_key ≡ key = c.is_same.ensures c.if-is_same.true in
+    let other_is = sym same ∙ get_or_default others at no_key key within in
+    record {
+      counted = (
+        key.second,
+        λ i from before. c.requires.ordered place i no_key (omega arith) before,
+        paired_more others keys at place low c.loop-place.counts.counts.items key within lt c.requires.others_ordered c.requires.ordered
+            other_is is counted,
+      );
+      texts = c.loop-place.invariant.texts;
+      changes = λ all lines other_lines once are are_others.
+          let (line, own, keyed) = key_at all place lines keys key are lt is in
+          let answer = paired_by_keys all lines other_lines keys others at place low c.loop-place.counts.counts.items key line once are
+          are_others keyed within other_is counted in
+          appended_more c.args.kind other_lines lines place line c.args.changes.now.items c.loop-place.changes.items c.loop-place.changes.items
+          false own (c.loop-place.invariant.changes all lines other_lines once are are_others) answer (sym (append-nil c.loop-place.changes.items));
+    }
 
 pub add-requires-clause-room : goal.add-requires-clause-room
 add-requires-clause-room c =
