@@ -35,7 +35,7 @@ use Rattle.plan_baseline.proofs.UniqueLemmas.{reading_unique}
 
 -- ---- columns
 
-none_append : (byte : ℕ) (a b : List ℕ) → HasNone byte a → HasNone byte b → HasNone byte (a ++ b)
+pub none_append : (byte : ℕ) (a b : List ℕ) → HasNone byte a → HasNone byte b → HasNone byte (a ++ b)
 none_append byte a b first second = list_any-append (λ x. x == byte) a b ∙ (λ i. first i || second i)
 
 each_below : (text : List ℕ) → list_all (λ b. nat_lt b 128) text ≡ true → IsAscii text
@@ -49,12 +49,12 @@ ascii_utf8 text all = IsUtf8-from_ascii text (each_below text all)
 tab_utf8 : (rest : List ℕ) → IsUtf8 rest → IsUtf8 (9 ∷ rest)
 tab_utf8 rest utf8 = IsUtf8-append (9 ∷ []) rest (ascii_utf8 (9 ∷ []) refl) utf8
 
-line_first : (text line rest : List ℕ) → text ≡ line ++ 10 ∷ rest → HasNone 10 line → IsUtf8 line → first_line text ≡ Some (line, rest)
+pub line_first : (text line rest : List ℕ) → text ≡ line ++ 10 ∷ rest → HasNone 10 line → IsUtf8 line → first_line text ≡ Some (line, rest)
 line_first text line rest whole none utf8 =
     ap (λ t. utf8_line (cut_at (10 ∷ []) t)) whole ∙ ap utf8_line (cut_first 10 line rest none)
     ∙ ap (λ is. if is then Some (line, rest) else None) (is_utf8-from_IsUtf8 line utf8)
 
-columns_first : (a b c : List ℕ) → HasNone 9 a → HasNone 9 b → columns (a ++ 9 ∷ (b ++ 9 ∷ c)) ≡ Some (a, (b, c))
+pub columns_first : (a b c : List ℕ) → HasNone 9 a → HasNone 9 b → columns (a ++ 9 ∷ (b ++ 9 ∷ c)) ≡ Some (a, (b, c))
 columns_first a b c first second =
     ap second_column (cut_first 9 a (b ++ 9 ∷ c) first) ∙ ap (option_map (λ parts. (a, parts))) (cut_first 9 b c second)
 

@@ -1,4 +1,5 @@
 pub mod Causes
+pub mod Known
 pub mod Line
 pub mod ReadBack
 pub mod Reading

@@ -8,9 +8,9 @@ ghost use Rattle.plan_baseline.specs.Line.{AreOrdered, is_within, line_at, line_
 ghost use Rattle.plan_baseline.specs.Reading.{AreReadAfter, head_of, IsFaultOf, IsReading};
 
 use crate::fault::BaselineFault;
-use crate::known::KnownTime;
 use crate::lines::{Header, Place, read_header, read_line};
 use crate::listed::Listed;
+use crate::repeats::KnownLine;
 use plan_next::Span;
 use simdutf8::is_utf8;
 use std::alloc::Global;
@@ -108,7 +108,7 @@ fn places_of(alloc: Global, text: &[u8], header: Header) -> Result<Vec<Place>, B
 {
     let is_utf8 = is_utf8(&text[header.start..]);
     let mut places = Vec::new(alloc);
-    let mut known = KnownTime::first();
+    let mut known = KnownLine::first();
     let (mut at, mut from) = (header.start, header.span.since());
     for number in 0..header.count {
         let Some(place) = read_line(text, is_utf8, at, from, header.span.upto(), &mut known) else {

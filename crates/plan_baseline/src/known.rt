@@ -1,11 +1,11 @@
 //! The time of the line before.
 
-ghost use Rattle.std.specs.Prelude.{◌≡◌, ℕ, ◌∷◌, ◌++◌, List, ◌<◌, IfNone, IfSome, length};
+ghost use Rattle.std.specs.Prelude.{◌≡◌, ℕ, ◌++◌, List, ◌<◌, IfNone, IfSome, length};
 ghost use Rattle.plan_sets.specs.Limits.{seconds_a_day};
 ghost use Rattle.plan_baseline.specs.Reading.{BeginsWithTime};
 ghost use Rattle.plan_baseline.specs.Times.{HasClock, IsLater, IsTimeOf, clock_text};
 
-use crate::cuts::cut;
+use crate::cuts::{cut, cut_after};
 use crate::times::{number, read_time};
 use plan_sets::{END_SECOND, SECONDS_A_DAY};
 use std::marker::Model;
@@ -45,6 +45,12 @@ impl<'a> KnownTime<'a> {
         }
     }
 
+    /// Returns the number of bytes of its text.
+    #[inline(always)]
+    pub(crate) fn len(&self) -> usize {
+        self.text.len()
+    }
+
     /// Reads the time in the first column of a line, and knows it from then on. Returns its second, and what follows the tab
     /// after it.
     #[inline(always)]
@@ -52,14 +58,26 @@ impl<'a> KnownTime<'a> {
         ensures some { IfSome result (λ parts. BeginsWithTime line.now parts.0 parts.1.now) }
         ensures none { IfNone result ((second : ℕ) (rest : List ℕ) → ¬ BeginsWithTime line.now second rest) }
     {
-        let Some((time, rest)) = cut_after(line, self.text.len()) else {
+        let Some((time, rest)) = cut_after(line, self.text.len(), b'\t') else {
             return self.read_other(line);
         };
         if time == self.text {
             return Some((self.second, rest));
         }
-        let Some(clock) = clock_after(self.text, self.second, self.clock, time) else {
+        let Some(second) = self.read_later(time) else {
             return self.read_other(line);
+        };
+        Some((second, rest))
+    }
+
+    /// Reads a time that is later by its time of day alone, and knows it from then on. Returns its second; or nothing, which
+    /// says nothing of it.
+    #[inline(always)]
+    pub(crate) fn read_later(&mut self, time: &'a [u8]) -> Option<u64>
+        ensures { IfSome result (IsTimeOf time.now) }
+    {
+        let Some(clock) = clock_after(self.text, self.second, self.clock, time) else {
+            return None;
         };
         let second = self.second + (clock - self.clock);
         *self = KnownTime {
@@ -67,7 +85,7 @@ impl<'a> KnownTime<'a> {
             second,
             clock,
         };
-        Some((second, rest))
+        Some(second)
     }
 
     // Does the same for any time.
@@ -92,30 +110,29 @@ impl<'a> KnownTime<'a> {
     }
 }
 
-// Returns the first bytes of a line, so many, and what follows the tab after them, if there is one.
-#[inline(always)]
-fn cut_after(line: &[u8], size: usize) -> Option<(&[u8], &[u8])>
-    ensures { IfSome result (λ parts. line.now ≡ parts.0.now ++ 9 ∷ parts.1.now) }
-{
-    if line.len() <= size || line[size] != b'\t' {
-        return None;
-    }
-    Some((&line[..size], &line[size + 1..]))
-}
-
-// Returns the seconds from midnight to the time of day of a time, if it is of the same day as a known one, and not before it.
+// Returns the seconds from midnight to the time of day of a time, if it is of the same day as a known one, and after it.
 #[inline(always)]
 fn clock_after(known: &[u8], second: u64, clock: u64, time: &[u8]) -> Option<u64>
     requires time { IsTimeOf known.now second }
     requires clock { HasClock known.now clock }
     ensures { IfSome result (IsLater second clock time.now) }
 {
-    let Some((date, _, zone)) = parts_of(known) else {
+    let Some((date, known_text, zone)) = parts_of(known) else {
         return None;
     };
     let Some((other_date, text, other_zone)) = parts_of(time) else {
         return None;
     };
+    // The same time of day is told at once, by the digits that differ most often.
+    if text[4] == known_text[4]
+        && text[7] == known_text[7]
+        && text[3] == known_text[3]
+        && text[1] == known_text[1]
+        && text[6] == known_text[6]
+        && text[0] == known_text[0]
+    {
+        return None;
+    }
     if other_date != date || other_zone != zone {
         return None;
     }

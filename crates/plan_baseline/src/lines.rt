@@ -5,11 +5,12 @@ ghost use Rattle.std.specs.Str.{is_utf8};
 ghost use Rattle.plan_next.specs.Span.{Bounds};
 ghost use Rattle.plan_collect.specs.Limits.{most_entries};
 ghost use Rattle.plan_baseline.specs.Line.{Line, is_within, line_at, line_of, place_of};
+ghost use Rattle.plan_baseline.specs.ReadBack.{HasNone};
 ghost use Rattle.plan_baseline.specs.Reading.{AreBounds, Head, IsCount, IsHeader, IsHeadRead, IsLine, IsLineRead, columns, first_line, head_of, is_mark};
 
 use crate::cuts::cut;
-use crate::known::KnownTime;
 use crate::listed::Listed;
+use crate::repeats::KnownLine;
 use crate::times::read_time;
 use itoa::Buffer as Digits;
 use plan_collect::MOST_ENTRIES;
@@ -142,7 +143,7 @@ pub(crate) fn read_line<'a>(
     at: usize,
     from: u64,
     upto: u64,
-    known: &mut KnownTime<'a>,
+    known: &mut KnownLine<'a>,
 ) -> Option<Place>
     requires inside { at ≤ length text.now }
     requires utf8 { IsTrue is_utf8 → IsUtf8 (drop at text.now) }
@@ -150,22 +151,47 @@ pub(crate) fn read_line<'a>(
     ensures within { IfSome result (λ place. IsTrue (is_within (length text.now) place)) }
     ensures utf8 { IfSome result (λ place. IsTrue is_utf8 → IsUtf8 (drop (place.end + 1) text.now)) }
 {
-    let Some((line, rest)) = first_line(&text[at..], is_utf8) else {
-        return None;
-    };
-    let Some(listed) = listed(line, from, upto, known) else {
+    let Some((listed, rest)) = first_listed(&text[at..], is_utf8, from, upto, known) else {
         return None;
     };
     Some(Place::of_line(&listed, text.len() - rest.len() - 1))
 }
 
+// Returns the start of the first line of a text, which is from one second on and before another, and what follows its newline.
+// `is_utf8` says that the text is UTF-8, or that this isn't known.
+#[inline(always)]
+fn first_listed<'a>(
+    text: &'a [u8],
+    is_utf8: bool,
+    from: u64,
+    upto: u64,
+    known: &mut KnownLine<'a>,
+) -> Option<(Listed<'a>, &'a [u8])>
+    requires { IsTrue is_utf8 → IsUtf8 text.now }
+    ensures { IsLineRead from upto text.now (option_map (λ parts. (line_of parts.0, parts.1.now)) result) }
+{
+    if is_utf8 {
+        if let Some(again) = known.read_again(text, from, upto) {
+            return Some(again);
+        }
+    }
+    let Some((line, rest)) = first_line(text, is_utf8) else {
+        return None;
+    };
+    let Some(listed) = listed(line, from, upto, known) else {
+        return None;
+    };
+    Some((listed, rest))
+}
+
 // Returns the start of a line, which is from one second on and before another.
 #[inline(always)]
-fn listed<'a>(line: &'a [u8], from: u64, upto: u64, known: &mut KnownTime<'a>) -> Option<Listed<'a>>
+fn listed<'a>(line: &'a [u8], from: u64, upto: u64, known: &mut KnownLine<'a>) -> Option<Listed<'a>>
+    requires { HasNone 10 line.now }
     ensures some { IfSome result (λ listed. IsLine from upto line.now (line_of listed)) }
     ensures none { IfNone result ((start : Line) → ¬ (IsLine from upto line.now start)) }
 {
-    let Some((second, rest)) = known.read_first(line) else {
+    let Some((second, rest)) = known.read_time(line) else {
         return None;
     };
     let Some((job, runs)) = cut(rest, b'\t') else {
@@ -174,6 +200,7 @@ fn listed<'a>(line: &'a [u8], from: u64, upto: u64, known: &mut KnownTime<'a>) -
     if second < from || second >= upto {
         return None;
     }
+    known.keep(rest, job.len());
     Some(Listed { second, job, runs })
 }
 

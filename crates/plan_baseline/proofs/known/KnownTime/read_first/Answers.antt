@@ -11,4 +11,4 @@ returns-then-eq-clause-some c =
 
 pub returns-clause-some : goal.returns-clause-some
 returns-clause-some c =
-    begins_with_time c.args.line.now c.in-Some.time.now c.in-Some.rest.now _ c.in-Some.ensures c.in-Some-clock_after.ensures.2
+    begins_with_time c.args.line.now c.in-Some.time.now c.in-Some.rest.now _ c.in-Some.ensures c.in-Some-read_later.ensures
