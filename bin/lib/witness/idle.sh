@@ -36,35 +36,35 @@ as_crontab() {
   sed 's/[\\%]/\\&/g; s/^/* * * * * root /'
 }
 
-# Runs the commands of the file $1, whose number has the remainder $2 when divided by $3. Prints the numbers of those that
-# have an effect. It has no rights to change the directory $4.
+# Runs the commands of the file $1, whose number has the remainder $2 when divided by $3, each in a directory of its own in $5: one
+# may leave a process that has an effect only later. They have no rights to change the directory $4.
 run_share() {
-  local number=0 text effects=$work/idle/effects.$2
-  mkdir -p "$effects"
-  chmod 777 "$effects"
+  local number=0 text effects
   while IFS= read -r text; do
     number=$((number + 1))
     [ $((number % $3)) = "$2" ] || continue
+    effects=$5/$number
+    mkdir -- "$effects"
     (cd "$effects" && exec env -i PATH="$4/bin:/usr/bin:/bin" EFFECTS="$effects" timeout 10 dash -c "$text") >/dev/null 2>&1 </dev/null
-    if [ -n "$(ls -A "$effects")" ]; then
-      echo $number
-      rm -rf -- "${effects:?}"/*
-    fi
   done <"$1"
 }
 
-# Prints the numbers of the commands of the file $1 that have an effect.
+# Prints the numbers of the commands of the file $1 that have an effect: there is something in their directory in the end.
 acting_commands() {
-  local share shares
+  local share shares effects=$work/idle/effects
   shares=$(nproc)
+  mkdir -- "$effects"
+  chmod 777 "$effects"
   for ((share = 0; share < shares; share++)); do
     if [ "$(id -u)" = 0 ] && command -v setpriv >/dev/null; then
-      work=$work setpriv --reuid=65534 --regid=65534 --clear-groups bash -c "$(declare -f run_share); run_share \"\$@\"" - "$1" "$share" "$shares" "$2" &
+      setpriv --reuid=65534 --regid=65534 --clear-groups bash -c "$(declare -f run_share); run_share \"\$@\"" - "$1" "$share" "$shares" "$2" "$effects" &
     else
-      run_share "$1" "$share" "$shares" "$2" &
+      run_share "$1" "$share" "$shares" "$2" "$effects" &
     fi
   done
   wait
+  sleep 1
+  find "$effects" -mindepth 2 -printf '%P\n' | cut -d / -f 1 | sort -u
 }
 
 # Compares the commands that are idle with those that dash runs.
@@ -77,7 +77,7 @@ compare_idle_commands() {
   as_crontab "$made" <"$work/idle/commands" | make_idle_root "$root" "$made"
   "$program" machine check --root "$root" 2>&1 >/dev/null </dev/null | sed -n 's|^agenda: idle: .*/etc/crontab:\([0-9]*\): .*|\1|p' |
     awk '{ print $1 - 1 }' | sort >"$work/idle/idle"
-  acting_commands "$work/idle/commands" "$made" | sort >"$work/idle/acting"
+  acting_commands "$work/idle/commands" "$made" >"$work/idle/acting"
   idle=$(wc -l <"$work/idle/idle")
   [ "$idle" != 0 ] || tell "no command is idle"
   comm -12 "$work/idle/idle" "$work/idle/acting" | head -n 5 | while IFS= read -r number; do
