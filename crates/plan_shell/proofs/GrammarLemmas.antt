@@ -7,7 +7,7 @@ use Rattle.plan_shell.specs.declared.level.Join.TheVariants as join
 use Rattle.plan_shell.specs.declared.level.Inside.{Inside}
 use Rattle.plan_shell.specs.declared.level.Inside.TheVariants as inside
 use Rattle.plan_shell.specs.declared.level.Level.{Level}
-use Rattle.plan_shell.specs.Grammar.{AreAndOrs, ArePiped, IsAndOr, IsCommand, IsIf, IsList, IsPipeline, IsRest, and, at_elif, choice, more, negated, one_and_or, one_command, one_pipeline, or, parts, pipe, plain}
+use Rattle.plan_shell.specs.Grammar.{AreAndOrs, AreCommands, ArePiped, IsAndOr, IsCommand, IsIf, IsPipeline, IsRest, and, at_elif, choice, more, negated, one_and_or, one_command, one_pipeline, or, parts, pipe, plain}
 use Rattle.plan_shell.specs.Reading.{ending_steps, if_steps, join_steps, list_steps, not_steps, pipe_steps, pipeline_steps}
 use Rattle.plan_shell.specs.Tree.{Shell, Not, Both, And, Or, If, with_steps}
 use Rattle.plan_shell.proofs.SimpleLemmas.{after_steps}
@@ -50,12 +50,15 @@ span_join {zs = zs} w make first second = record {
 
 pub data ListBegun : (is_second : Bool) (xs ys : Pieces) (below trees : List Shell) → Type 0 where
   no_list : {xs : Pieces} {below : List Shell} → ListBegun false xs xs below below
-  after_semicolon : {xs ys : Pieces} {below : List Shell} {a : Shell} → Span AreAndOrs xs (codes ";" ∷ ys) a → ListBegun true xs ys below (a ∷ below)
+  after_semicolon : {closed : Bool} {xs ys : Pieces} {below : List Shell} {a : Shell} → Span (AreAndOrs closed) xs (codes ";" ∷ ys) a
+      → ListBegun true xs ys below (a ∷ below)
 
 pub data JoinBegun : Join → (xs ys : Pieces) (below trees : List Shell) → Type 0 where
   no_join : {xs : Pieces} {below : List Shell} → JoinBegun join.None xs xs below below
-  after_and : {xs ys : Pieces} {below : List Shell} {a : Shell} → Span IsAndOr xs (codes "&&" ∷ ys) a → JoinBegun join.And xs ys below (a ∷ below)
-  after_or : {xs ys : Pieces} {below : List Shell} {a : Shell} → Span IsAndOr xs (codes "||" ∷ ys) a → JoinBegun join.Or xs ys below (a ∷ below)
+  after_and : {closed : Bool} {xs ys : Pieces} {below : List Shell} {a : Shell} → Span (IsAndOr closed) xs (codes "&&" ∷ ys) a
+      → JoinBegun join.And xs ys below (a ∷ below)
+  after_or : {closed : Bool} {xs ys : Pieces} {below : List Shell} {a : Shell} → Span (IsAndOr closed) xs (codes "||" ∷ ys) a
+      → JoinBegun join.Or xs ys below (a ∷ below)
 
 pub data NotBegun : (is_negated : Bool) (xs ys : Pieces) → Type 0 where
   no_not : {xs : Pieces} → NotBegun false xs xs
@@ -63,7 +66,8 @@ pub data NotBegun : (is_negated : Bool) (xs ys : Pieces) → Type 0 where
 
 pub data PipeBegun : (is_piped : Bool) (xs ys : Pieces) (below trees : List Shell) → Type 0 where
   no_pipe : {xs : Pieces} {below : List Shell} → PipeBegun false xs xs below below
-  after_pipe : {xs ys : Pieces} {below : List Shell} {a : Shell} → Span ArePiped xs (codes "|" ∷ ys) a → PipeBegun true xs ys below (a ∷ below)
+  after_pipe : {closed : Bool} {xs ys : Pieces} {below : List Shell} {a : Shell} → Span (ArePiped closed) xs (codes "|" ∷ ys) a
+      → PipeBegun true xs ys below (a ∷ below)
 
 pub data Begun (level : Level) (xs ys : Pieces) (below trees : List Shell) : Type 0 where
   begun : {ands pipeline pipes : Pieces} {first second : List Shell} → ListBegun level.is_second xs ands below first
@@ -83,46 +87,48 @@ makes_more {steps = steps} {rest = rest} {trees = trees} first second =
 abbrev pub Ends : (Pieces → Shell → Type 0) → (xs ys : Pieces) → List Step → (trees below : List Shell) → Type 0
 Ends Is xs ys steps trees below = (a : Shell) × Span Is xs ys a × Makes steps trees (a ∷ below)
 
-pub pipe_ends : (is_piped : Bool) {xs ys zs : Pieces} {below trees : List Shell} {b : Shell} → PipeBegun is_piped xs ys below trees
-    → Span IsCommand ys zs b → Ends ArePiped xs zs (if is_piped then step.Both ∷ [] else []) (b ∷ trees) below
+pub pipe_ends : (is_piped : Bool) {closed : Bool} {xs ys zs : Pieces} {below trees : List Shell} {b : Shell} → PipeBegun is_piped xs ys below trees
+    → Span (IsCommand closed) ys zs b → Ends (ArePiped closed) xs zs (if is_piped then step.Both ∷ [] else []) (b ∷ trees) below
 pipe_ends false {b = b} no_pipe span = (b, span_same (λ p. one_command) span, record { is = refl })
 pipe_ends true {b = b} (after_pipe {a = a} before) span = (Both a b, span_join (codes "|") (λ p q. pipe) before span, record { is = refl })
 
-not_ends : (is_negated : Bool) {xs ys zs : Pieces} {trees : List Shell} {b : Shell} → NotBegun is_negated xs ys → Span ArePiped ys zs b
-    → Ends IsPipeline xs zs (if is_negated then step.Not ∷ [] else []) (b ∷ trees) trees
+not_ends : (is_negated : Bool) {closed : Bool} {xs ys zs : Pieces} {trees : List Shell} {b : Shell} → NotBegun is_negated xs ys
+    → Span (ArePiped closed) ys zs b → Ends (IsPipeline closed) xs zs (if is_negated then step.Not ∷ [] else []) (b ∷ trees) trees
 not_ends false {b = b} no_not span = (b, span_same (λ p. plain) span, record { is = refl })
 not_ends true {b = b} after_not span = (Not b, span_begun (codes "!") (λ p. negated) span, record { is = refl })
 
-join_ends : (joined : Join) {xs ys zs : Pieces} {below trees : List Shell} {b : Shell} → JoinBegun joined xs ys below trees
-    → Span IsPipeline ys zs b → Ends IsAndOr xs zs (join_steps joined) (b ∷ trees) below
+join_ends : (joined : Join) {closed : Bool} {xs ys zs : Pieces} {below trees : List Shell} {b : Shell} → JoinBegun joined xs ys below trees
+    → Span (IsPipeline closed) ys zs b → Ends (IsAndOr closed) xs zs (join_steps joined) (b ∷ trees) below
 join_ends join.None {b = b} no_join span = (b, span_same (λ p. one_pipeline) span, record { is = refl })
 join_ends join.And {b = b} (after_and {a = a} before) span = (And a b, span_join (codes "&&") (λ p q. and) before span, record { is = refl })
 join_ends join.Or {b = b} (after_or {a = a} before) span = (Or a b, span_join (codes "||") (λ p q. or) before span, record { is = refl })
 
-list_ends : (is_second : Bool) {xs ys zs : Pieces} {below trees : List Shell} {b : Shell} → ListBegun is_second xs ys below trees
-    → Span IsAndOr ys zs b → Ends AreAndOrs xs zs (if is_second then step.Both ∷ [] else []) (b ∷ trees) below
+list_ends : (is_second : Bool) {closed : Bool} {xs ys zs : Pieces} {below trees : List Shell} {b : Shell} → ListBegun is_second xs ys below trees
+    → Span (IsAndOr closed) ys zs b → Ends (AreAndOrs closed) xs zs (if is_second then step.Both ∷ [] else []) (b ∷ trees) below
 list_ends false {b = b} no_list span = (b, span_same (λ p. one_and_or) span, record { is = refl })
 list_ends true {b = b} (after_semicolon {a = a} before) span = (Both a b, span_join (codes ";") (λ p q. more) before span, record { is = refl })
 
 -- a pipeline ends, and the ones that it is joined to
-abbrev pub EndsAndOr : Level → (xs zs : Pieces) → (trees below : List Shell) → Type 0
-EndsAndOr level xs zs trees below =
-    (ands : Pieces) × (first : List Shell) × ListBegun level.is_second xs ands below first × Ends IsAndOr ands zs (pipeline_steps level) trees first
+abbrev pub EndsAndOr : Level → (closed : Bool) → (xs zs : Pieces) → (trees below : List Shell) → Type 0
+EndsAndOr level closed xs zs trees below =
+    (ands : Pieces) × (first : List Shell) × ListBegun level.is_second xs ands below first
+    × Ends (IsAndOr closed) ands zs (pipeline_steps level) trees first
 
-pub and_or_ends : (level : Level) {xs ys zs : Pieces} {below trees : List Shell} {c : Shell} → Begun level xs ys below trees
-    → Span IsCommand ys zs c → EndsAndOr level xs zs (c ∷ trees) below
-and_or_ends level {zs = zs} (begun {ands = ands} {pipeline = pipeline} {pipes = pipes} {first = first} {second = second} before joined negation piped) span =
-    let p : Ends ArePiped pipes zs (pipe_steps level) _ second = pipe_ends level.is_piped piped span in
-    let n : Ends IsPipeline pipeline zs (not_steps level) (p.0 ∷ second) second = not_ends level.is_negated negation p.1 in
-    let j : Ends IsAndOr ands zs (join_steps level.join) (n.0 ∷ second) first = join_ends level.join joined n.1 in
+pub and_or_ends : (level : Level) {closed : Bool} {xs ys zs : Pieces} {below trees : List Shell} {c : Shell} → Begun level xs ys below trees
+    → Span (IsCommand closed) ys zs c → EndsAndOr level closed xs zs (c ∷ trees) below
+and_or_ends level {closed} {zs = zs}
+    (begun {ands = ands} {pipeline = pipeline} {pipes = pipes} {first = first} {second = second} before joined negation piped) span =
+    let p : Ends (ArePiped closed) pipes zs (pipe_steps level) _ second = pipe_ends level.is_piped piped span in
+    let n : Ends (IsPipeline closed) pipeline zs (not_steps level) (p.0 ∷ second) second = not_ends level.is_negated negation p.1 in
+    let j : Ends (IsAndOr closed) ands zs (join_steps level.join) (n.0 ∷ second) first = join_ends level.join joined n.1 in
     (ands, first, before, (j.0, j.1, makes_more (makes_more p.2 n.2) j.2))
 
 -- a list ends after a command
-pub and_ors_end : (level : Level) {xs ys zs : Pieces} {below trees : List Shell} {c : Shell} → Begun level xs ys below trees
-    → Span IsCommand ys zs c → Ends AreAndOrs xs zs (ending_steps level) (c ∷ trees) below
-and_ors_end level {xs = xs} {zs = zs} {below = below} before span =
-    let a : EndsAndOr level xs zs _ below = and_or_ends level before span in
-    let l : Ends AreAndOrs xs zs (list_steps level) (a.3.0 ∷ a.1) below = list_ends level.is_second a.2 a.3.1 in
+pub and_ors_end : (level : Level) {closed : Bool} {xs ys zs : Pieces} {below trees : List Shell} {c : Shell} → Begun level xs ys below trees
+    → Span (IsCommand closed) ys zs c → Ends (AreAndOrs closed) xs zs (ending_steps level) (c ∷ trees) below
+and_ors_end level {closed} {xs = xs} {zs = zs} {below = below} before span =
+    let a : EndsAndOr level closed xs zs _ below = and_or_ends level before span in
+    let l : Ends (AreAndOrs closed) xs zs (list_steps level) (a.3.0 ∷ a.1) below = list_ends level.is_second a.2 a.3.1 in
     (l.0, l.1, makes_more a.3.2 l.2)
 
 -- ---- where a list begins in a command
@@ -133,14 +139,14 @@ pub data Opened : (kind : Inside) (elifs : ℕ) (xs ys : Pieces) (below trees : 
   after_brace : {elifs : ℕ} {ys : Pieces} {below : List Shell} → Opened inside.Braces elifs (codes "{" ∷ ys) ys below below
   after_if : {ys : Pieces} {below : List Shell} → Opened inside.Condition 0 (codes "if" ∷ ys) ys below below
   after_elif : {elifs : ℕ} {xs ys zs : Pieces} {below trees : List Shell} {b : Shell} → Opened inside.Then elifs xs ys below trees
-      → Span IsList ys (codes "elif" ∷ zs) b → Opened inside.Condition (suc elifs) xs zs below (b ∷ trees)
+      → Span (AreCommands true) ys (codes "elif" ∷ zs) b → Opened inside.Condition (suc elifs) xs zs below (b ∷ trees)
   after_then : {elifs : ℕ} {xs ys zs : Pieces} {below trees : List Shell} {a : Shell} → Opened inside.Condition elifs xs ys below trees
-      → Span IsList ys (codes "then" ∷ zs) a → Opened inside.Then elifs xs zs below (a ∷ trees)
+      → Span (AreCommands true) ys (codes "then" ∷ zs) a → Opened inside.Then elifs xs zs below (a ∷ trees)
   after_else : {elifs : ℕ} {xs ys zs : Pieces} {below trees : List Shell} {b : Shell} → Opened inside.Then elifs xs ys below trees
-      → Span IsList ys (codes "else" ∷ zs) b → Opened inside.Else elifs xs zs below (b ∷ trees)
+      → Span (AreCommands true) ys (codes "else" ∷ zs) b → Opened inside.Else elifs xs zs below (b ∷ trees)
 
-span_parts : {xs ys zs us : Pieces} {a b c : Shell} → Span IsList xs (codes "then" ∷ ys) a → Span IsList ys zs b → Span IsRest zs us c
-    → Span IsIf xs us (If a b c)
+span_parts : {xs ys zs us : Pieces} {a b c : Shell} → Span (AreCommands true) xs (codes "then" ∷ ys) a → Span (AreCommands true) ys zs b
+    → Span IsRest zs us c → Span IsIf xs us (If a b c)
 span_parts {zs = zs} {us = us} first second third = record {
   part = first.part ++ codes "then" ∷ second.part ++ third.part;
   cut = first.cut ∙ ap (λ rest. first.part ++ codes "then" ∷ rest) second.cut ∙ sym (append_assoc first.part (codes "then" ∷ second.part) zs)
@@ -151,7 +157,7 @@ span_parts {zs = zs} {us = us} first second third = record {
 
 -- an `if` ends, and those that its `elif`s began
 pub if_ends : (elifs : ℕ) {xs ys zs us : Pieces} {below trees : List Shell} {b c : Shell} → Opened inside.Then elifs xs ys below trees
-    → Span IsList ys zs b → Span IsRest zs us c → Ends IsCommand xs us (if_steps elifs) (c ∷ b ∷ trees) below
+    → Span (AreCommands true) ys zs b → Span IsRest zs us c → Ends (IsCommand true) xs us (if_steps elifs) (c ∷ b ∷ trees) below
 if_ends elifs {b = b} {c = c} (after_then {a = a} after_if condition) then_part rest =
     (If a b c, span_begun (codes "if") (λ p. choice) (span_parts condition then_part rest), record { is = refl })
 if_ends elifs {b = b} {c = c} (after_then {a = a} (after_elif {elifs = fewer} opened before) condition) then_part rest =

@@ -8,48 +8,54 @@ use Rattle.plan_shell.specs.declared.reader.Place.{Place}
 use Rattle.plan_shell.specs.declared.reader.Place.TheVariants.{Words}
 use Rattle.plan_shell.specs.Reading.{keyword, keyword_or, operator, token_at}
 
-pub data Spelled : Token → (piece : List ℕ) → Type 0 where
-  word : (piece : List ℕ) → Spelled token.Word piece
-  semicolon : Spelled token.Semicolon (codes ";")
-  and : Spelled token.And (codes "&&")
-  or : Spelled token.Or (codes "||")
-  pipe : Spelled token.Pipe (codes "|")
-  exclamation : Spelled token.Not (codes "!")
-  parenthesis : Spelled (token.Opens inside.Parentheses) (codes "(")
-  closing_parenthesis : Spelled (token.Closes inside.Parentheses) (codes ")")
-  brace : Spelled (token.Opens inside.Braces) (codes "{")
-  closing_brace : Spelled (token.Closes inside.Braces) (codes "}")
-  word_if : Spelled (token.Opens inside.Condition) (codes "if")
-  word_then : Spelled token.Then (codes "then")
-  word_elif : Spelled token.Elif (codes "elif")
-  word_else : Spelled token.Else (codes "else")
-  word_fi : Spelled token.Fi (codes "fi")
+-- `closed`: words of the grammar may come
+pub data Spelled : (closed : Bool) → Token → (piece : List ℕ) → Type 0 where
+  word : {closed : Bool} (piece : List ℕ) → Spelled closed token.Word piece
+  semicolon : {closed : Bool} → Spelled closed token.Semicolon (codes ";")
+  and : {closed : Bool} → Spelled closed token.And (codes "&&")
+  or : {closed : Bool} → Spelled closed token.Or (codes "||")
+  pipe : {closed : Bool} → Spelled closed token.Pipe (codes "|")
+  exclamation : Spelled true token.Not (codes "!")
+  parenthesis : {closed : Bool} → Spelled closed (token.Opens inside.Parentheses) (codes "(")
+  closing_parenthesis : {closed : Bool} → Spelled closed (token.Closes inside.Parentheses) (codes ")")
+  brace : Spelled true (token.Opens inside.Braces) (codes "{")
+  closing_brace : Spelled true (token.Closes inside.Braces) (codes "}")
+  word_if : Spelled true (token.Opens inside.Condition) (codes "if")
+  word_then : Spelled true token.Then (codes "then")
+  word_elif : Spelled true token.Elif (codes "elif")
+  word_else : Spelled true token.Else (codes "else")
+  word_fi : Spelled true token.Fi (codes "fi")
 
 -- a piece is this one, or another
-either : {this other : Token} (piece : List ℕ) {text : List ℕ} → Spelled this text → Spelled other piece
-    → Spelled (if bytes_eq piece text then this else other) piece
-either {this} {other} piece {text} first second = by_test (bytes_eq piece text) (bytes_eq-Decides piece text).0
+either : {closed : Bool} {this other : Token} (piece : List ℕ) {text : List ℕ} → Spelled closed this text → Spelled closed other piece
+    → Spelled closed (if bytes_eq piece text then this else other) piece
+either {closed} {this} {other} piece {text} first second = by_test (bytes_eq piece text) (bytes_eq-Decides piece text).0
   where
-    by_test : (b : Bool) → (b ≡ true → piece ≡ text) → Spelled (if b then this else other) piece
-    by_test true same = subst (Spelled this) (sym (same refl)) first
+    by_test : (b : Bool) → (b ≡ true → piece ≡ text) → Spelled closed (if b then this else other) piece
+    by_test true same = subst (Spelled closed this) (sym (same refl)) first
     by_test false same = second
 
-spelled_operator : (piece : List ℕ) → Spelled (operator piece) piece
+spelled_operator : {closed : Bool} (piece : List ℕ) → Spelled closed (operator piece) piece
 spelled_operator piece =
     either piece semicolon (either piece and (either piece or (either piece pipe (either piece parenthesis
     (either piece closing_parenthesis (word piece))))))
 
-spelled_keyword : (piece : List ℕ) → Spelled (keyword piece) piece
+spelled_keyword : (piece : List ℕ) → Spelled true (keyword piece) piece
 spelled_keyword piece =
     either piece exclamation (either piece brace (either piece closing_brace (either piece word_if (either piece word_then
     (either piece word_elif (either piece word_else (either piece word_fi (word piece))))))))
 
-spelled_or : (found : Token) (piece : List ℕ) → Spelled found piece → Spelled (keyword_or found piece) piece
+spelled_or : (found : Token) (piece : List ℕ) → Spelled true found piece → Spelled true (keyword_or found piece) piece
 spelled_or token.Word piece spelled = spelled_keyword piece
 spelled_or _ piece spelled = spelled
 
+-- words of the grammar may come here
+abbrev pub is_closed : Place → Bool
+is_closed Words = false
+is_closed _ = true
+
 -- a piece is spelled as what it is
-pub spelled_at : (place : Place) (piece : List ℕ) → Spelled (token_at place piece) piece
+pub spelled_at : (place : Place) (piece : List ℕ) → Spelled (is_closed place) (token_at place piece) piece
 spelled_at Words piece = spelled_operator piece
 spelled_at _ piece = spelled_or (operator piece) piece (spelled_operator piece)
 
