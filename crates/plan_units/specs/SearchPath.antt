@@ -42,5 +42,9 @@ abbrev pub with_paths : (List ℕ → Node) → List UnitDir → List (List ℕ)
 with_paths node dirs [] = dirs
 with_paths node dirs (path ∷ more) = with_paths node (with_dir dirs (dir_by node path (end_of node path))) more
 
+-- the directories where some paths lead. It has a name of its own, so that the prover doesn't follow paths that are known
+unfoldable pub dirs_at : (List ℕ → Node) → (paths : List (List ℕ)) → List UnitDir
+dirs_at node paths = with_paths node [] paths
+
 abbrev pub search_path : (List ℕ → Node) → List UnitDir
 search_path node = with_paths node [] unit_paths

@@ -22,7 +22,7 @@ pub use file::{UnitFile, file_of_unit, is_below, last_name};
 pub use mask::is_mask;
 pub use merging::{Entry, entries_among, names_at};
 pub use names::{stem, template_of, wanted_name};
-pub use paths::{UnitDir, dir_at, read_dir, search_path};
+pub use paths::{UnitDir, dir_at, dirs_at, read_dir, search_path};
 pub use reach::{Wants, add_new, reached};
 pub use settings::{name_of_word, section_name, setting_of};
 pub use timers::{boot_timers, is_timer};

@@ -5,7 +5,7 @@ ghost use Rattle.std.specs.List.{list_any};
 ghost use Rattle.std.specs.Str.{bytes_eq};
 ghost use Rattle.plan_tree.specs.Links.{end_of};
 ghost use Rattle.plan_units.specs.Entries.{read_dir};
-ghost use Rattle.plan_units.specs.SearchPath.{dir_by, is_of_system, search_path, unit_paths, with_dir};
+ghost use Rattle.plan_units.specs.SearchPath.{dir_by, dirs_at, is_of_system, search_path, unit_paths, with_dir};
 
 use plan_tree::{End, Node, Place, Tree, follow};
 use std::alloc::{AllocError, Global};
@@ -91,11 +91,25 @@ fn is_one_of(path: &str, others: &[&str]) -> bool
 /// # Errors
 ///
 /// `AllocError` if an allocation fails.
+#[tactic(auto, unfolding(crate::specs::SearchPath::dirs_at))]
 pub fn search_path<T: Tree>(alloc: Global, tree: &T) -> Result<Vec<UnitDir>, AllocError>
     ensures { T.is_known ≡ true → IfOk result (λ dirs. dirs.items ≡ search_path (T.held tree.now).node) }
 {
+    dirs_at(alloc, tree, &unit_paths())
+}
+
+/// Returns the directories where some paths lead, in order. One that is the same as an earlier one is skipped.
+///
+/// # Errors
+///
+/// `AllocError` if an allocation fails.
+#[tactic(auto, unfolding(crate::specs::SearchPath::dirs_at))]
+pub fn dirs_at<T: Tree>(alloc: Global, tree: &T, paths: &[&str]) -> Result<Vec<UnitDir>, AllocError>
+    ensures { T.is_known ≡ true → IfOk result (λ dirs.
+        dirs.items ≡ dirs_at (T.held tree.now).node (map (λ path. path.now) paths.now)) }
+{
     let mut dirs = Vec::new(alloc);
-    for path in &unit_paths() {
+    for path in paths {
         if let Some(dir) = dir_at(alloc, tree, path)? {
             add_dir(&mut dirs, dir)?;
         }

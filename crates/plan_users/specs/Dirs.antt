@@ -4,7 +4,7 @@ use Rattle.plan_tree.specs.declared.tree.Node.{Node}
 use Rattle.plan_tree.specs.Links.{end_of}
 use Rattle.plan_tree.specs.Place.{child}
 use Rattle.plan_units.specs.declared.paths.UnitDir.{UnitDir}
-use Rattle.plan_units.specs.SearchPath.{dir_by, with_paths}
+use Rattle.plan_units.specs.SearchPath.{dir_by, dirs_at}
 
 -- ---- the paths
 
@@ -26,10 +26,6 @@ abbrev pub user_paths : (home : List ℕ) → List (List ℕ)
 user_paths home = paths_by (config_dir home) (data_dir home)
 
 -- ---- the directories
-
--- the directories where some paths lead. It has a name of its own, so that the prover doesn't follow paths that are known
-unfoldable pub dirs_at : (List ℕ → Node) → (paths : List (List ℕ)) → List UnitDir
-dirs_at node paths = with_paths node [] paths
 
 -- the directories of a user's units
 abbrev pub user_dirs : (List ℕ → Node) → (home : List ℕ) → List UnitDir

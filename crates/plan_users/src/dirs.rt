@@ -1,13 +1,10 @@
 //! The search path of the units of a user (systemd.unit(5), user unit search path).
 
-ghost use Rattle.std.specs.Prelude.{◌≡◌, true, IfOk, OnOk, Some, map};
-ghost use Rattle.std.specs.List.{list_any};
-ghost use Rattle.std.specs.Str.{bytes_eq};
-ghost use Rattle.plan_units.specs.SearchPath.{with_dir};
-ghost use Rattle.plan_users.specs.Dirs.{config_dir, data_dir, dirs_at, has_dirs, is_dir, paths_by, user_dirs};
+ghost use Rattle.std.specs.Prelude.{◌≡◌, true, IfOk, map};
+ghost use Rattle.plan_users.specs.Dirs.{config_dir, data_dir, has_dirs, is_dir, paths_by, user_dirs};
 
 use plan_tree::{Place, Tree};
-use plan_units::{UnitDir, dir_at};
+use plan_units::{UnitDir, dir_at, dirs_at};
 use std::alloc::{AllocError, Global};
 
 // Returns the directories of the units of a user with this home directory that exist in a tree, first to last.
@@ -53,39 +50,6 @@ pub(crate) fn data_dir(alloc: Global, home: &Place) -> Result<Place, AllocError>
     ensures { IfOk result (λ dir. dir ≡ data_dir home.now) }
 {
     home.child(alloc, ".local/share/systemd/user")
-}
-
-// Returns the directories where some paths lead, each once.
-#[tactic(auto, unfolding(crate::specs::Dirs::dirs_at))]
-fn dirs_at<T: Tree>(alloc: Global, tree: &T, paths: &[&str]) -> Result<Vec<UnitDir>, AllocError>
-    ensures { T.is_known ≡ true → IfOk result (λ dirs.
-        dirs.items ≡ dirs_at (T.held tree.now).node (map (λ path. path.now) paths.now)) }
-{
-    let mut dirs = Vec::new(alloc);
-    for path in paths {
-        if let Some(dir) = dir_at(alloc, tree, path)? {
-            add_dir(&mut dirs, dir)?;
-        }
-    }
-    Ok(dirs)
-}
-
-// Adds a directory, unless one is the same.
-fn add_dir(dirs: &mut Vec<UnitDir>, dir: UnitDir) -> Result<(), AllocError>
-    ensures { OnOk result (dirs.new.items ≡ with_dir dirs.old.items (Some dir)) }
-{
-    if is_among(dirs.as_slice(), dir.real.as_str()) {
-        return Ok(());
-    }
-    dirs.push(dir)?;
-    Ok(())
-}
-
-// Returns whether a path is where one of some directories leads.
-fn is_among(dirs: &[UnitDir], real: &str) -> bool
-    ensures { result ≡ list_any (λ other. bytes_eq other.real real.now) dirs.now }
-{
-    dirs.iter().any(|other| other.real.as_str() == real)
 }
 
 // Returns whether a home directory has a directory of units.

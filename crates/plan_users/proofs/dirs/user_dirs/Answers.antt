@@ -1,7 +1,8 @@
 -- The paths are those of the home directory.
 use Rattle.std.proofs.Common.{◌≡◌, ap, ◌∙◌, subst}
 use Rattle.std.specs.Prelude.{IfOk}
-use Rattle.plan_users.specs.Dirs.{config_dir, dirs_at, paths_by}
+use Rattle.plan_units.specs.SearchPath.{dirs_at}
+use Rattle.plan_users.specs.Dirs.{config_dir, paths_by}
 use Rattle.plan_users.proofs.dirs.user_dirs.Goals as goal
 
 pub returns : goal.returns

@@ -1,6 +1,6 @@
 use Rattle.std.proofs.Common.{◌≡◌, [], drop, map, true}
 use Rattle.plan_units.specs.SearchPath.{with_paths}
-use Rattle.plan_users.proofs.dirs.dirs_at.Given as goal
+use Rattle.plan_units.proofs.paths.dirs_at.Given as goal
 
 -- the directories so far, with those of the paths that are left, are all
 abbrev pub invariant-loop-path : goal.invariant-loop-path
