@@ -1,14 +1,12 @@
 -- Starts that are the same, and the changes that are appended place by place: for `push_lacking`.
-use Rattle.std.proofs.Common.{◌≡◌, ℕ, zero, suc, ◌+◌, ◌<◌, ◌≤◌, Bool, true, false, cond, not, ◌&&◌, ◌==◌, List, [], ◌∷◌, ◌++◌, length, take, get_or, Option, None, Some, refl, ap, sym, ◌∙◌, arith, subst, inl, inr, append-nil, append_assoc}
-use Rattle.std.specs.Prelude.{count_by, nat_le, nat_lt, slice_get}
+use Rattle.std.proofs.Common.{◌≡◌, ℕ, zero, suc, ◌+◌, ◌<◌, Bool, true, false, cond, ◌&&◌, ◌==◌, List, [], ◌∷◌, ◌++◌, length, get_or, Option, None, Some, refl, ap, sym, ◌∙◌, arith, append_assoc}
+use Rattle.std.specs.Prelude.{count_by, slice_get}
 use Rattle.std.specs.Str.{bytes_eq}
 use Rattle.std.proofs.lemmas.Slice.Eq.{bytes_eq-Decides}
 use Rattle.std.specs.List.{cons_option, filter_map, range_with_len}
 use Rattle.std.proofs.lemmas.List.Elements.{filter_map-append}
-use Rattle.std.proofs.lemmas.Bool.{and_parts, cases_lt, eqb-true}
-use Rattle.std.proofs.lemmas.Bool.Decides.{nat_tests}
-use Rattle.std.proofs.lemmas.List.{take_more}
-use Rattle.std.proofs.lemmas.Option.{get_or_from_slice_get, slice_get-get_or, slice_get_past}
+use Rattle.std.proofs.lemmas.Bool.{and_parts, eqb-true}
+use Rattle.std.proofs.lemmas.Option.{slice_get-get_or}
 use Rattle.plan_baseline.specs.Line.{Line}
 use Rattle.plan_changes.specs.declared.change.Change.{Change}
 use Rattle.plan_changes.specs.declared.change.ChangeKind.{ChangeKind}
@@ -44,12 +42,6 @@ range_more a (suc n) =
 one_or_none : {X : Type 0} (is : Bool) (x : X) → cond is (x ∷ []) [] ≡ cons_option (cond is (Some x) None) []
 one_or_none true x = refl
 one_or_none false x = refl
-
-pub within_list : (lines : List Line) (place : ℕ) (line : Line) → Some line ≡ slice_get lines place → place < length lines
-within_list lines place line own = elim (cases_lt place (length lines)) [
-  | inl lt ↦ lt
-  | inr le ↦ (let none = slice_get_past lines place le in cc)
-]
 
 -- the changes of one more start
 pub before_more :

@@ -1,9 +1,10 @@
 -- How many elements of a list pass a test, by places: for the copies of a start.
-use Rattle.std.proofs.Common.{◌≡◌, ℕ, zero, suc, ◌+◌, ◌<◌, ◌≤◌, Bool, true, cond, List, [], ◌∷◌, ◌++◌, length, take, get_or, inl, inr, refl, ap, arith}
-use Rattle.std.specs.Prelude.{count_by}
-use Rattle.std.proofs.lemmas.Bool.{cases_Bool}
+use Rattle.std.proofs.Common.{◌≡◌, ℕ, zero, suc, ◌+◌, ◌<◌, ◌≤◌, Bool, true, cond, List, [], ◌∷◌, ◌++◌, length, take, get_or, Some, inl, inr, refl, ap, ◌∙◌, arith}
+use Rattle.std.specs.Prelude.{count_by, slice_get}
+use Rattle.std.proofs.lemmas.Bool.{cases_Bool, cases_lt}
 use Rattle.std.proofs.lemmas.List.{take-take}
-use Rattle.std.proofs.lemmas.List.Sums.{count_by_more_yes, sum_by-cons, sum_by-take-le, sum_by_push}
+use Rattle.std.proofs.lemmas.Option.{get_or_from_slice_get, slice_get_past}
+use Rattle.std.proofs.lemmas.List.Sums.{count_by_more_yes, sum_by-cons, sum_by-take-le, sum_by_more, sum_by_push}
 
 -- one if it is
 abbrev pub times : Bool → ℕ
@@ -14,6 +15,21 @@ count_cons p x xs = sum_by-cons (λ y. cond (p y) 1 0) x xs
 
 pub count_push : {X : Type 0} (p : X → Bool) (xs : List X) (x : X) → count_by p (xs ++ x ∷ []) ≡ count_by p xs + times (p x)
 count_push p xs x = sum_by_push (λ y. cond (p y) 1 0) xs x
+
+-- an element of a list is within it
+pub within_list : {X : Type 0} (xs : List X) (place : ℕ) (x : X) → slice_get xs place ≡ Some x → place < length xs
+within_list xs place x is = elim (cases_lt place (length xs)) [
+  | inl lt ↦ lt
+  | inr le ↦ (let none = slice_get_past xs place le in cc)
+]
+
+-- with the element at the next place
+pub count_next :
+    {X : Type 0} (p : X → Bool) (xs : List X) (n : ℕ) (x : X) → slice_get xs n ≡ Some x →
+    count_by p (take (n + 1) xs) ≡ count_by p (take n xs) + times (p x)
+count_next p xs n x is =
+    sum_by_more (λ y. cond (p y) 1 0) xs n x (within_list xs n x is)
+    ∙ ap (λ y. count_by p (take n xs) + times (p y)) (get_or_from_slice_get xs n x x is)
 
 -- an element passes and has so many before it that do
 abbrev pub HasRank : {X : Type 0} → (X → Bool) → List X → X → (n : ℕ) → Type 0

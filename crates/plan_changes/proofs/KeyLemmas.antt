@@ -1,13 +1,12 @@
 -- The keys of starts, and what is counted of them: for the loops of `push_lacking`.
-use Rattle.std.proofs.Common.{◌≡◌, ◌≢◌, ℕ, zero, suc, ◌+◌, ◌-◌, ◌<◌, ◌≤◌, ◌⊎◌, Bool, true, false, cond, not, ◌&&◌, ◌==◌, List, [], ◌∷◌, ◌++◌, length, take, get_or, Option, None, Some, refl, ap, sym, ◌∙◌, arith, subst, inl, inr, take_all, append-nil}
-use Rattle.std.specs.Prelude.{count_by, nat_le, nat_lt, replicate, slice_get, slice_index_or, slice_set}
-use Rattle.std.specs.List.{list_all}
+use Rattle.std.proofs.Common.{◌≡◌, ◌≢◌, ℕ, zero, suc, ◌+◌, ◌-◌, ◌<◌, ◌≤◌, ◌⊎◌, Bool, true, false, cond, not, ◌==◌, List, [], ◌∷◌, ◌++◌, length, take, get_or, None, Some, refl, ap, sym, ◌∙◌, arith, subst, inl, inr, take_all, append-nil}
+use Rattle.std.specs.Prelude.{nat_le, nat_lt, replicate, slice_get, slice_index_or, slice_set}
 use Rattle.std.specs.Str.{bytes_eq}
-use Rattle.std.proofs.lemmas.Bool.{and_from, and_left, and_parts, and_right, cases_Bool, cases_eq, cases_lt, eq-eqb, eqb-true, lt-ltb, ltb-true, ne_eqb}
+use Rattle.std.proofs.lemmas.Bool.{and_from, and_left, and_parts, and_right, cases_eq, cases_lt, eq-eqb, eqb-true, ne_eqb}
 use Rattle.std.proofs.lemmas.Bool.Decides.{nat_tests, same_from_decides}
-use Rattle.std.proofs.lemmas.List.{get_or-set_other, get_or-set_same, get_or_read, length-set, length-take, take_more}
-use Rattle.std.proofs.lemmas.Option.{get_or_from_slice_get, slice_get_past}
-use Rattle.std.proofs.lemmas.List.Sums.{count_by-le-length, count_by_more_no, count_by_more_yes}
+use Rattle.std.proofs.lemmas.List.{get_or-set_other, get_or-set_same, length-append, length-set, length-take}
+use Rattle.std.proofs.lemmas.Option.{get_or_from_slice_get, slice_get-get_or}
+use Rattle.std.proofs.lemmas.List.Sums.{count_by-le-length, count_by_more_no}
 use Rattle.std.proofs.lemmas.Slice.Eq.{bytes_eq-Decides}
 use Rattle.plan_baseline.specs.Line.{Line}
 use Rattle.plan_changes.specs.declared.change.Change.{Change}
@@ -16,11 +15,15 @@ use Rattle.plan_changes.specs.declared.counts.Count.{Count}
 use Rattle.plan_changes.specs.declared.keys.Key.{Key}
 use Rattle.plan_changes.specs.Changes.{AreAscending, copies, is_lacking, is_same}
 use Rattle.plan_changes.specs.Counts.{left, no_count}
-use Rattle.plan_changes.specs.Keys.{AreEachOnce, AreInOrder, AreKeysOf, HaveStayed, IsKeyOf, copies_of, is_same_key}
-use Rattle.plan_changes.proofs.CompareLemmas.{change_if, within_list}
-use Rattle.plan_changes.proofs.CountLemmas.{count_cons, count_push, fewer_before, fewer_of_all, times}
+use Rattle.plan_changes.specs.Keys.{AreEachOnce, AreInOrder, AreKeysOf, AreUsable, HaveStayed, IsKeyOf, copies_of, is_same_key}
+use Rattle.plan_changes.proofs.CompareLemmas.{change_if}
+use Rattle.plan_changes.proofs.CountLemmas.{count_next, fewer_of_all, times, within_list}
 
 -- ---- copies of a start are copies of its key
+
+-- no key
+abbrev pub no_key : Key
+no_key = record { second = 0; runs = 0 }
 
 same_key :
     (texts : List (List ℕ)) (one other : Line) (key next : Key) → AreEachOnce texts → IsKeyOf texts one key → IsKeyOf texts other next →
@@ -45,35 +48,28 @@ same_key texts one other key next once (second, runs) (also, run) =
     some_same : (x y : List ℕ) → Some x ≡ Some y → x ≡ y
     some_same x y is = cc
 
-pub copies_by_keys :
+-- as many of the first starts are the same as one as keys are
+first_copies :
+    (texts : List (List ℕ)) (line : Line) (key : Key) (lines : List Line) (keys : List Key) (n : ℕ) → AreEachOnce texts →
+    IsKeyOf texts line key → AreKeysOf texts lines keys → n ≤ length keys → copies line (take n lines) ≡ copies_of key (take n keys)
+first_copies texts line key lines keys zero once is are le = refl
+first_copies texts line key lines keys (suc n) once is are le =
+    let next = get_or keys n no_key in
+    let there = slice_get-get_or keys n no_key (omega arith) in
+    let (other, own, keyed) = are.are n next there in
+    let same = same_key texts line other key next once is keyed in
+    let rest = first_copies texts line key lines keys n once is are (omega arith) in
+    let more : n + 1 ≡ suc n = omega arith in
+    subst (λ k. copies line (take k lines) ≡ copies_of key (take k keys)) more
+    (count_next (is_same line) lines n other own ∙ (λ i. rest i + times (same i)) ∙ sym (count_next (is_same_key key) keys n next there))
+
+all_copies :
     (texts : List (List ℕ)) (line : Line) (key : Key) (lines : List Line) (keys : List Key) → AreEachOnce texts → IsKeyOf texts line key →
     AreKeysOf texts lines keys → copies line lines ≡ copies_of key keys
-copies_by_keys texts line key [] [] once is are = refl
-copies_by_keys texts line key [] (next ∷ keys) once is are = elim are [ ]
-copies_by_keys texts line key (other ∷ lines) [] once is are = elim are [ ]
-copies_by_keys texts line key (other ∷ lines) (next ∷ keys) once is (here, later) =
-    let same = same_key texts line other key next once is here in
-    let rest = copies_by_keys texts line key lines keys once is later in
-    count_cons (is_same line) other lines ∙ (λ i. times (same i) + rest i) ∙ sym (count_cons (is_same_key key) next keys)
-
-pub first_keys :
-    (texts : List (List ℕ)) (n : ℕ) (lines : List Line) (keys : List Key) → AreKeysOf texts lines keys → AreKeysOf texts (take n lines) (take n keys)
-first_keys texts zero lines keys are = tt
-first_keys texts (suc n) [] [] are = tt
-first_keys texts (suc n) [] (key ∷ keys) are = elim are [ ]
-first_keys texts (suc n) (line ∷ lines) [] are = elim are [ ]
-first_keys texts (suc n) (line ∷ lines) (key ∷ keys) (here, later) = (here, first_keys texts n lines keys later)
-
--- the key of the start at a place
-pub key_at :
-    (texts : List (List ℕ)) (place : ℕ) (lines : List Line) (keys : List Key) (key : Key) → AreKeysOf texts lines keys → place < length keys →
-    key ≡ get_or keys place key → (line : Line) × (Some line ≡ slice_get lines place) × IsKeyOf texts line key
-key_at texts place [] [] key are lt is = absurd (omega arith)
-key_at texts place [] (next ∷ keys) key are lt is = elim are [ ]
-key_at texts zero (line ∷ lines) [] key are lt is = elim are [ ]
-key_at texts (suc place) (line ∷ lines) [] key are lt is = elim are [ ]
-key_at texts zero (line ∷ lines) (next ∷ keys) key (here, later) lt is = (line, refl, subst (IsKeyOf texts line) (sym is) here)
-key_at texts (suc place) (line ∷ lines) (next ∷ keys) key (here, later) lt is = key_at texts place lines keys key later (omega arith) is
+all_copies texts line key lines keys once is are =
+    ap (copies line) (sym (take_all (length keys) lines (omega (arith, are.many))))
+    ∙ first_copies texts line key lines keys (length keys) once is are (omega arith)
+    ∙ ap (copies_of key) (take_all (length keys) keys (omega arith))
 
 -- ---- what is left
 
@@ -110,10 +106,6 @@ set_other key other n counts differ =
     λ i. cond ((there i).second == other.second) (there i).left 0
 
 -- ---- starts that were counted
-
--- no key
-abbrev pub no_key : Key
-no_key = record { second = 0; runs = 0 }
 
 -- the key at a place
 abbrev pub key_in : List Key → (place : ℕ) → Key
@@ -204,60 +196,80 @@ strict a b le differ = elim (cases_lt a b) [
   | inr ge ↦ absurd (differ (omega arith))
 ]
 
+-- no key before a place is later than the one there
+up_to :
+    (keys : List Key) (place : ℕ) (key : Key) → AreInOrder keys → slice_get keys place ≡ Some key → (i : ℕ) → i ≤ place →
+    (key_in keys i).second ≤ key.second
+up_to keys place key ordered at i le =
+    subst (λ k. (key_in keys i).second ≤ k.second) (get_or_from_slice_get keys place key no_key at)
+    (ordered i place no_key le (within_list keys place key at))
+
+-- no key after a place is earlier than the one there
+pub from_on :
+    (keys : List Key) (place : ℕ) (key : Key) → AreInOrder keys → slice_get keys place ≡ Some key → (i : ℕ) → place ≤ i →
+    i < length keys → key.second ≤ (key_in keys i).second
+from_on keys place key ordered at i le lt =
+    subst (λ k. k.second ≤ (key_in keys i).second) (get_or_from_slice_get keys place key no_key at) (ordered place i no_key le lt)
+
+-- the next of the others isn't earlier than what was counted
+pub low_before :
+    (others keys : List Key) (at place low : ℕ) (counts : List Count) (other : Key) → slice_get others at ≡ Some other →
+    IsCounted others keys at place low counts → low ≤ other.second
+low_before others keys at place low counts other is counted =
+    subst (λ o. low ≤ o.second) (get_or_from_slice_get others at other no_key is)
+    (counted.coming at (omega arith) (within_list others at other is))
+
+-- from the next of the others on, no key has more copies that were taken away than were added
+few_before :
+    (others keys : List Key) (at place low : ℕ) (counts : List Count) (other key : Key) → slice_get others at ≡ Some other →
+    IsCounted others keys at place low counts → other.second ≤ key.second →
+    copies_of key (take place keys) ≤ copies_of key (take at others)
+few_before others keys at place low counts other key is counted le =
+    counted.paired key (within_list others at other is)
+    (subst (λ o. o.second ≤ key.second) (sym (get_or_from_slice_get others at other no_key is)) le)
+
 -- one more of the others is added
 pub added_more :
-    (others keys : List Key) (at place low : ℕ) (counts : List Count) (other : Key) → at < length others → place ≤ length keys →
-    AreInOrder others → other ≡ get_or others at other → other.runs < length counts → IsCounted others keys at place low counts →
+    (others keys : List Key) (at place low : ℕ) (counts : List Count) (other : Key) → AreInOrder others →
+    slice_get others at ≡ Some other → other.runs < length counts → IsCounted others keys at place low counts →
     IsCounted others keys (at + 1) place other.second
     (slice_set counts other.runs (record { second = other.second; left = left counts other + 1 }))
-added_more others keys at place low counts other lt inside ordered is within counted = record {
-  inside = omega arith;
+added_more others keys at place low counts other ordered is within counted = record {
+  inside = omega (arith, within_list others at other is);
   lefts = lefts;
-  seen = λ i before. seen i (omega arith);
-  coming = λ i from before. subst (λ o. o.second ≤ (key_in others i).second) here (ordered at i no_key (omega arith) before);
+  seen = λ i before. up_to others at other ordered is i (omega arith);
+  coming = λ i from before. from_on others at other ordered is i (omega arith) before;
   done = λ i before. (let early = counted.done i before in omega (arith, early, low_le));
-  paired = λ key within late.
-      let first = ordered at (at + 1) no_key (omega arith) within in
-      let few = counted.paired key lt (omega (arith, first, late)) in
-      let more = fewer_before (is_same_key key) others at (at + 1) (omega arith) in
-      omega (arith, few, more);
+  paired = λ key inside late.
+      let next = from_on others at other ordered is (at + 1) (omega arith) inside in
+      let few = few_before others keys at place low counts other key is counted (omega (arith, next, late)) in
+      omega (arith, few, count_next (is_same_key key) others at other is);
 }
   where
-    here : key_in others at ≡ other
-    here = sym (get_or_read others at other lt is no_key)
-
     low_le : low ≤ other.second
-    low_le = subst (λ o. low ≤ o.second) here (counted.coming at (omega arith) lt)
-
-    seen : (i : ℕ) → i ≤ at → (key_in others i).second ≤ other.second
-    seen i le = subst (λ o. (key_in others i).second ≤ o.second) here (ordered i at no_key le lt)
+    low_le = low_before others keys at place low counts other is counted
 
     lefts : (key : Key) → other.second ≤ key.second →
         after_set other key (left counts other + 1) counts ≡ copies_of key (take (at + 1) others) - copies_of key (take place keys)
-    lefts key le = elim (data_cases key other) [
-      | inl same ↦
-          let set = set_same other key (left counts other + 1) counts within (ap (λ k. is_same_key k other) same ∙ is_own other) in
-          let more = count_by_more_yes (is_same_key key) others at no_key lt
-          ((λ i. is_same_key (same i) (here i)) ∙ is_own other) in
-          let few = counted.paired key lt (subst (λ o. o.second ≤ key.second) (sym here) le) in
-          let old = counted.lefts key (omega (arith, low_le, le)) in
-          let own : left counts key ≡ left counts other = ap (left counts) same in
-          omega (arith, set, more, few, old, own)
-      | inr (inl differ) ↦
-          let set = set_other other key (left counts other + 1) counts differ in
-          let more = count_by_more_no (is_same_key key) others at no_key lt
-          (ap (is_same_key key) here ∙ other_number key other differ) in
-          let old = counted.lefts key (omega (arith, low_le, le)) in
-          omega (arith, set, more, old)
-      | inr (inr (runs, differ)) ↦
-          let set = set_number other key (left counts other + 1) counts within runs differ in
-          let more = count_by_more_no (is_same_key key) others at no_key lt
-          (ap (is_same_key key) here ∙ other_second key other differ) in
-          let none = no_copies key others at (omega arith)
-          (λ i before. (let early = counted.seen i before in
-          let later = strict other.second key.second le differ in omega (arith, early, low_le, later))) in
-          omega (arith, set, more, none)
-    ]
+    lefts key le =
+        let more = count_next (is_same_key key) others at other is in
+        let old = counted.lefts key (omega (arith, low_le, le)) in
+        elim (data_cases key other) [
+          | inl same ↦
+              let own = ap (λ k. is_same_key k other) same ∙ is_own other in
+              let set = set_same other key (left counts other + 1) counts within own in
+              let few = few_before others keys at place low counts other key is counted le in
+              omega (arith, set, more, ap times own, few, old, ap (left counts) same)
+          | inr (inl differ) ↦
+              let set = set_other other key (left counts other + 1) counts differ in
+              omega (arith, set, more, ap times (other_number key other differ), old)
+          | inr (inr (runs, differ)) ↦
+              let set = set_number other key (left counts other + 1) counts within runs differ in
+              let none = no_copies key others at counted.inside
+              (λ i before. (let early = counted.seen i before in
+              let later = strict other.second key.second le differ in omega (arith, early, low_le, later))) in
+              omega (arith, set, more, ap times (other_second key other differ), none)
+        ]
 
 -- what is left after one start like a key is taken away, if one was left
 abbrev pub after_taken : (taken : Bool) → (key : Key) → List Count → List Count
@@ -269,62 +281,42 @@ none_left n none = grind (arith, nat_tests)
 
 -- one more of the keys is taken away
 pub taken_more :
-    (others keys : List Key) (at place low : ℕ) (counts : List Count) (key : Key) (taken : Bool) → place < length keys →
-    low ≤ key.second → AreInOrder others → AreInOrder keys → (at < length others → key.second < (key_in others at).second) →
-    key ≡ get_or keys place key → key.runs < length counts → taken ≡ nat_lt 0 (left counts key) → IsCounted others keys at place low counts →
+    (others keys : List Key) (at place low : ℕ) (counts : List Count) (key : Key) (taken : Bool) → low ≤ key.second → AreInOrder others →
+    AreInOrder keys → (at < length others → key.second < (key_in others at).second) → slice_get keys place ≡ Some key →
+    key.runs < length counts → taken ≡ nat_lt 0 (left counts key) → IsCounted others keys at place low counts →
     IsCounted others keys at (place + 1) key.second (after_taken taken key counts)
-taken_more others keys at place low counts key taken lt low_le ordered in_order passed is within answer counted = record {
+taken_more others keys at place low counts key taken low_le ordered in_order passed is within answer counted = record {
   inside = counted.inside;
   lefts = lefts taken answer;
   seen = λ i before. (let early = counted.seen i before in omega (arith, early, low_le));
-  coming = λ i from before. (let later = late i from before in omega (arith, later));
-  done = done;
-  paired = paired;
+  coming = λ i from before.
+      let first = passed (omega arith) in
+      let later = ordered at i no_key from before in
+      omega (arith, first, later);
+  done = λ i before. up_to keys place key in_order is i (omega arith);
+  paired = λ other inside le.
+      let few = counted.paired other inside le in
+      let differ : other.second ≢ key.second = λ same. (let first = passed inside in omega (arith, first, le, same)) in
+      omega (arith, few, count_next (is_same_key other) keys place key is, ap times (other_second other key differ));
 }
   where
-    here : key_in keys place ≡ key
-    here = sym (get_or_read keys place key lt is no_key)
-
-    late : (i : ℕ) → at ≤ i → i < length others → key.second < (key_in others i).second
-    late i from before =
-        let first = passed (omega arith) in
-        let later = ordered at i no_key from before in
-        omega (arith, first, later)
-
-    done : (i : ℕ) → i < place + 1 → (key_in keys i).second ≤ key.second
-    done i before = subst (λ k. (key_in keys i).second ≤ k.second) here (in_order i place no_key (omega arith) lt)
-
-    paired : (other : Key) → at < length others → (key_in others at).second ≤ other.second →
-        copies_of other (take (place + 1) keys) ≤ copies_of other (take at others)
-    paired other inside le =
-        let few = counted.paired other inside le in
-        let differ : other.second ≢ key.second = λ same. (let first = passed inside in omega (arith, first, le, same)) in
-        let same = count_by_more_no (is_same_key other) keys place no_key lt (ap (is_same_key other) here ∙ other_second other key differ) in
-        omega (arith, few, same)
-
     lefts : (taken : Bool) → taken ≡ nat_lt 0 (left counts key) → (other : Key) → key.second ≤ other.second →
         left (after_taken taken key counts) other ≡ copies_of other (take at others) - copies_of other (take (place + 1) keys)
     lefts taken answer other le =
         let old = counted.lefts other (omega (arith, low_le, le)) in
+        let more = count_next (is_same_key other) keys place key is in
         elim (data_cases other key) [
           | inl same ↦
-              let more = count_by_more_yes (is_same_key other) keys place no_key lt ((λ i. is_same_key (same i) (here i)) ∙ is_own key) in
-              let own : left counts other ≡ left counts key = ap (left counts) same in
-              let new = taken_same taken answer (ap (λ k. is_same_key k key) same ∙ is_own key) own in
-              omega (arith, more, old, new)
-          | inr (inl differ) ↦
-              let more = count_by_more_no (is_same_key other) keys place no_key lt
-              (ap (is_same_key other) here ∙ other_number other key differ) in
-              let new = taken_other taken differ in
-              omega (arith, more, old, new)
+              let own = ap (λ k. is_same_key k key) same ∙ is_own key in
+              let new = taken_same taken answer own (ap (left counts) same) in
+              omega (arith, more, ap times own, old, new)
+          | inr (inl differ) ↦ omega (arith, more, ap times (other_number other key differ), old, taken_other taken differ)
           | inr (inr (runs, differ)) ↦
-              let more = count_by_more_no (is_same_key other) keys place no_key lt
-              (ap (is_same_key other) here ∙ other_second other key differ) in
               let none = no_copies other others at counted.inside
               (λ i before. (let early = counted.seen i before in
               let later = strict key.second other.second le differ in omega (arith, early, low_le, later))) in
               let new = taken_number taken runs differ in
-              omega (arith, more, old, none, new)
+              omega (arith, more, ap times (other_second other key differ), old, none, new)
         ]
       where
         taken_same : (taken : Bool) → taken ≡ nat_lt 0 (left counts key) → is_same_key other key ≡ true → left counts other ≡ left counts key →
@@ -343,48 +335,22 @@ taken_more others keys at place low counts key taken lt low_le ordered in_order 
 
 -- one more of both is the same key
 pub paired_more :
-    (others keys : List Key) (at place low : ℕ) (counts : List Count) (key : Key) → at < length others → place < length keys →
-    AreInOrder others → AreInOrder keys → key ≡ get_or others at key → key ≡ get_or keys place key →
-    IsCounted others keys at place low counts → IsCounted others keys (at + 1) (place + 1) key.second counts
-paired_more others keys at place low counts key within lt ordered in_order other_is is counted = record {
-  inside = omega arith;
+    (others keys : List Key) (at place low : ℕ) (counts : List Count) (key : Key) → AreInOrder others → AreInOrder keys →
+    slice_get others at ≡ Some key → slice_get keys place ≡ Some key → IsCounted others keys at place low counts →
+    IsCounted others keys (at + 1) (place + 1) key.second counts
+paired_more others keys at place low counts key ordered in_order also is counted = record {
+  inside = omega (arith, within_list others at key also);
   lefts = λ other le.
-      let old = counted.lefts other (omega (arith, low_le, le)) in
-      let both = both_more other in
-      omega (arith, old, both);
-  seen = λ i before. subst (λ o. (key_in others i).second ≤ o.second) there (ordered i at no_key (omega arith) within);
-  coming = λ i from before. subst (λ o. o.second ≤ (key_in others i).second) there (ordered at i no_key (omega arith) before);
-  done = λ i before. subst (λ k. (key_in keys i).second ≤ k.second) here (in_order i place no_key (omega arith) lt);
+      let old = counted.lefts other (omega (arith, low_before others keys at place low counts key also counted, le)) in
+      omega (arith, old, count_next (is_same_key other) others at key also, count_next (is_same_key other) keys place key is);
+  seen = λ i before. up_to others at key ordered also i (omega arith);
+  coming = λ i from before. from_on others at key ordered also i (omega arith) before;
+  done = λ i before. up_to keys place key in_order is i (omega arith);
   paired = λ other inside le.
-      let next = ordered at (at + 1) no_key (omega arith) inside in
-      let few = counted.paired other within (omega (arith, next, le)) in
-      let both = both_more other in
-      omega (arith, few, both);
+      let next = from_on others at key ordered also (at + 1) (omega arith) inside in
+      let few = few_before others keys at place low counts key other also counted (omega (arith, next, le)) in
+      omega (arith, few, count_next (is_same_key other) others at key also, count_next (is_same_key other) keys place key is);
 }
-  where
-    here : key_in keys place ≡ key
-    here = sym (get_or_read keys place key lt is no_key)
-
-    there : key_in others at ≡ key
-    there = sym (get_or_read others at key within other_is no_key)
-
-    low_le : low ≤ key.second
-    low_le = subst (λ o. low ≤ o.second) there (counted.coming at (omega arith) within)
-
-    both_more : (other : Key) → (n : ℕ) × (copies_of other (take (at + 1) others) ≡ copies_of other (take at others) + n)
-        × (copies_of other (take (place + 1) keys) ≡ copies_of other (take place keys) + n)
-    both_more other = elim (cases_Bool (is_same_key other key)) [
-      | inl same ↦ (
-        1,
-        count_by_more_yes (is_same_key other) others at no_key within (ap (is_same_key other) there ∙ same),
-        count_by_more_yes (is_same_key other) keys place no_key lt (ap (is_same_key other) here ∙ same),
-      )
-      | inr differ ↦ (
-        0,
-        (let more = count_by_more_no (is_same_key other) others at no_key within (ap (is_same_key other) there ∙ differ) in omega (arith, more)),
-        (let more = count_by_more_no (is_same_key other) keys place no_key lt (ap (is_same_key other) here ∙ differ) in omega (arith, more)),
-      )
-    ]
 
 not_lacking : (m k : ℕ) → k < m → false ≡ nat_le m k
 not_lacking m k lt = grind (arith, nat_tests)
@@ -393,15 +359,15 @@ not_lacking m k lt = grind (arith, nat_tests)
 pub paired_by_keys :
     (texts : List (List ℕ)) (lines other_lines : List Line) (keys others : List Key) (at place low : ℕ) (counts : List Count) (key : Key)
     (line : Line) → AreEachOnce texts → AreKeysOf texts lines keys → AreKeysOf texts other_lines others → IsKeyOf texts line key →
-    at < length others → key ≡ get_or others at key → IsCounted others keys at place low counts → false ≡ is_lacking other_lines lines place line
-paired_by_keys texts lines other_lines keys others at place low counts key line once are are_others own within other_is counted =
-    let there : key_in others at ≡ key = sym (get_or_read others at key within other_is no_key) in
-    let few = counted.paired key within (let same : (key_in others at).second ≡ key.second = ap (λ k. k.second) there in omega (arith, same)) in
-    let more = count_by_more_yes (is_same_key key) others at no_key within (ap (is_same_key key) there ∙ is_own key) in
+    slice_get others at ≡ Some key → slice_get keys place ≡ Some key → IsCounted others keys at place low counts →
+    false ≡ is_lacking other_lines lines place line
+paired_by_keys texts lines other_lines keys others at place low counts key line once are are_others own also is counted =
+    let few = few_before others keys at place low counts key key also counted (omega arith) in
+    let more = count_next (is_same_key key) others at key also in
     let most = fewer_of_all (is_same_key key) others (at + 1) in
-    let here = copies_by_keys texts line key (take place lines) (take place keys) once own (first_keys texts place lines keys are) in
-    let all = copies_by_keys texts line key other_lines others once own are_others in
-    not_lacking (copies line other_lines) (copies line (take place lines)) (omega (arith, few, more, most, here, all))
+    let here = first_copies texts line key lines keys place once own are (omega (arith, within_list keys place key is)) in
+    let all = all_copies texts line key other_lines others once own are_others in
+    not_lacking (copies line other_lines) (copies line (take place lines)) (omega (arith, few, more, ap times (is_own key), most, here, all))
 
 lacks : (m k n : ℕ) → n ≡ m - k → not (nat_lt 0 n) ≡ nat_le m k
 lacks m k n is = grind (arith, nat_tests)
@@ -411,9 +377,9 @@ pub lacking_by_keys :
     (texts : List (List ℕ)) (lines other_lines : List Line) (keys others : List Key) (at place low : ℕ) (counts : List Count) (key : Key)
     (line : Line) (taken : Bool) → AreEachOnce texts → AreKeysOf texts lines keys → AreKeysOf texts other_lines others →
     IsKeyOf texts line key → low ≤ key.second → AreInOrder others → (at < length others → key.second < (key_in others at).second) →
-    taken ≡ nat_lt 0 (left counts key) → IsCounted others keys at place low counts →
+    slice_get keys place ≡ Some key → taken ≡ nat_lt 0 (left counts key) → IsCounted others keys at place low counts →
     not taken ≡ is_lacking other_lines lines place line
-lacking_by_keys texts lines other_lines keys others at place low counts key line taken once are are_others own low_le ordered passed answer
+lacking_by_keys texts lines other_lines keys others at place low counts key line taken once are are_others own low_le ordered passed is answer
     counted =
     let inside = counted.inside in
     let all : at + (length others - at) ≡ length others = omega (arith, inside) in
@@ -422,11 +388,11 @@ lacking_by_keys texts lines other_lines keys others at place low counts key line
     let no_more : copies_of key others ≡ copies_of key (take at others) =
     ap (copies_of key) (sym whole)
     ∙ no_more_copies key others at (length others - at) (let le : at + (length others - at) ≤ length others = omega (arith, all) in le) late in
-    let here = copies_by_keys texts line key (take place lines) (take place keys) once own (first_keys texts place lines keys are) in
-    let there = copies_by_keys texts line key other_lines others once own are_others in
+    let here = first_copies texts line key lines keys place once own are (omega (arith, within_list keys place key is)) in
+    let there = all_copies texts line key other_lines others once own are_others in
     let rest = counted.lefts key low_le in
-    let is : left counts key ≡ copies line other_lines - copies line (take place lines) = omega (arith, here, there, rest, no_more) in
-    ap not answer ∙ lacks (copies line other_lines) (copies line (take place lines)) (left counts key) is
+    let more : left counts key ≡ copies line other_lines - copies line (take place lines) = omega (arith, here, there, rest, no_more) in
+    ap not answer ∙ lacks (copies line other_lines) (copies line (take place lines)) (left counts key) more
   where
     late : (i : ℕ) → at ≤ i → i < length others → key.second < (key_in others i).second
     late i from before =
@@ -444,28 +410,13 @@ left_few others keys at place low counts key le counted =
     let len = length-take at others in
     omega (arith, rest, few, len)
 
--- the numbers of keys are those of texts
-pub below_at :
-    (bound : ℕ) (keys : List Key) (i : ℕ) (key : Key) → list_all (λ k. nat_lt k.runs bound) keys ≡ true → i < length keys →
-    key ≡ get_or keys i key → key.runs < bound
-below_at bound [] i key all lt is = absurd (omega arith)
-below_at bound (k ∷ keys) zero key all lt is =
-    let both = and_parts (nat_lt k.runs bound) (list_all (λ k. nat_lt k.runs bound) keys) all in
-    subst (λ (k : Key). k.runs < bound) (sym is) (ltb-true k.runs bound both.0)
-below_at bound (k ∷ keys) (suc i) key all lt is =
-    let both = and_parts (nat_lt k.runs bound) (list_all (λ k. nat_lt k.runs bound) keys) all in
-    below_at bound keys i key both.1 (omega arith) is
+-- there is one key at a place
+pub one_key : (keys : List Key) (place : ℕ) (one other : Key) → slice_get keys place ≡ Some one → slice_get keys place ≡ Some other → one ≡ other
+one_key keys place one other is also = cc
 
 pub still_as_many : (taken : Bool) (key : Key) (counts : List Count) → length (after_taken taken key counts) ≡ length counts
 still_as_many true key counts = length-set counts key.runs _
 still_as_many false key counts = refl
-
--- there are as many keys as starts
-pub same_many : (texts : List (List ℕ)) (lines : List Line) (keys : List Key) → AreKeysOf texts lines keys → length lines ≡ length keys
-same_many texts [] [] are = refl
-same_many texts [] (key ∷ keys) are = elim are [ ]
-same_many texts (line ∷ lines) [] are = elim are [ ]
-same_many texts (line ∷ lines) (key ∷ keys) (here, later) = ap suc (same_many texts lines keys later)
 
 -- the change of a start that isn't left is appended
 pub pushed_if :
@@ -485,82 +436,82 @@ pushed_none taken kind place line old new taken_is same =
 
 -- keys stay those of their starts
 pub stay_keys : (old new : List (List ℕ)) (lines : List Line) (keys : List Key) → HaveStayed old new → AreKeysOf old lines keys → AreKeysOf new lines keys
-stay_keys old new [] [] stay are = tt
-stay_keys old new [] (key ∷ keys) stay are = elim are [ ]
-stay_keys old new (line ∷ lines) [] stay are = elim are [ ]
-stay_keys old new (line ∷ lines) (key ∷ keys) stay ((second, runs), later) =
-    ((second, stay key.runs line.runs runs), stay_keys old new lines keys stay later)
-
-push_key :
-    (texts : List (List ℕ)) (lines : List Line) (keys : List Key) (line : Line) (key : Key) → AreKeysOf texts lines keys → IsKeyOf texts line key →
-    AreKeysOf texts (lines ++ line ∷ []) (keys ++ key ∷ [])
-push_key texts [] [] line key are own = (own, tt)
-push_key texts [] (next ∷ keys) line key are own = elim are [ ]
-push_key texts (other ∷ lines) [] line key are own = elim are [ ]
-push_key texts (other ∷ lines) (next ∷ keys) line key (here, later) own = (here, push_key texts lines keys line key later own)
+stay_keys old new lines keys stay are = record {
+  many = are.many;
+  are = λ place key at. (let (line, own, (second, runs)) = are.are place key at in (line, own, (second, stay key.runs line.runs runs)));
+}
 
 -- the keys of the starts before a place, and texts that stayed
 pub record AreKeyed (first texts : List (List ℕ)) (lines : List Line) (place : ℕ) (keys : List Key) : Type 0 where
-  pub are : AreKeysOf texts (take place lines) keys
+  pub many : length keys ≡ place
+  pub are : (i : ℕ) (key : Key) → slice_get keys i ≡ Some key → (line : Line) × (slice_get lines i ≡ Some line) × IsKeyOf texts line key
   pub stay : HaveStayed first texts
 
 pub none_keyed : (texts : List (List ℕ)) (lines : List Line) (keys : List Key) → keys ≡ [] → AreKeyed texts texts lines 0 keys
-none_keyed texts lines keys none = record { are = subst (AreKeysOf texts []) (sym none) tt; stay = λ number text is. is }
+none_keyed texts lines keys none = record {
+  many = ap length none;
+  are = λ i key at. (let no : None ≡ Some key = sym (ap (λ (ks : List Key). slice_get ks i) none) ∙ at in cc);
+  stay = λ number text is. is;
+}
+
+-- what is at a place of a list after a push
+pushed_at :
+    (keys : List Key) (key other : Key) (i : ℕ) → slice_get (keys ++ key ∷ []) i ≡ Some other →
+    (slice_get keys i ≡ Some other) ⊎ ((i ≡ length keys) × (key ≡ other))
+pushed_at [] key other zero is = inr (refl, cc)
+pushed_at [] key other (suc i) is = absurd cc
+pushed_at (k ∷ keys) key other zero is = inl is
+pushed_at (k ∷ keys) key other (suc i) is = elim (pushed_at keys key other i is) [
+  | inl before ↦ inl before
+  | inr (last, same) ↦ inr (ap suc last, same)
+]
 
 -- one more key
 pub one_keyed :
     (first texts next : List (List ℕ)) (lines : List Line) (place : ℕ) (keys more : List Key) (line : Line) (key : Key) →
     Some line ≡ slice_get lines place → IsKeyOf next line key → HaveStayed texts next → more ≡ keys ++ key ∷ [] →
     AreKeyed first texts lines place keys → AreKeyed first next lines (place + 1) more
-one_keyed first texts next lines place keys more line key at own stay pushed so_far =
-    let within = within_list lines place line at in
-    let here : get_or lines place line ≡ line = get_or_from_slice_get lines place line line (sym at) in
-    let longer : take (place + 1) lines ≡ take place lines ++ line ∷ [] =
-    take_more lines place line within ∙ ap (λ one. take place lines ++ one ∷ []) here in
-    record {
-      are = subst (λ ls. AreKeysOf next ls more) (sym longer)
-          (subst (AreKeysOf next (take place lines ++ line ∷ [])) (sym pushed)
-          (push_key next (take place lines) keys line key (stay_keys texts next (take place lines) keys stay so_far.are) own));
-      stay = λ number text is. stay number text (so_far.stay number text is);
-    }
+one_keyed first texts next lines place keys more line key at own stay pushed so_far = record {
+  many = omega (arith, ap length pushed, length-append keys (key ∷ []), so_far.many);
+  are = λ i other is. elim (pushed_at keys key other i (ap (λ ks. slice_get ks i) (sym pushed) ∙ is)) [
+    | inl before ↦ (let (one, its, (second, runs)) = so_far.are i other before in
+        (one, its, (second, stay other.runs one.runs runs)))
+    | inr (last, same) ↦
+        (line, ap (slice_get lines) (last ∙ so_far.many) ∙ sym at, subst (IsKeyOf next line) same own)
+  ];
+  stay = λ number text is. stay number text (so_far.stay number text is);
+}
 
 pub all_keyed :
-    (first texts : List (List ℕ)) (lines : List Line) (place : ℕ) (keys : List Key) → length lines ≤ place → AreKeyed first texts lines place keys →
+    (first texts : List (List ℕ)) (lines : List Line) (place : ℕ) (keys : List Key) → place ≡ length lines → AreKeyed first texts lines place keys →
     AreKeysOf texts lines keys
-all_keyed first texts lines place keys all so_far = subst (λ ls. AreKeysOf texts ls keys) (take_all place lines all) so_far.are
+all_keyed first texts lines place keys all so_far = record { many = so_far.many ∙ all; are = so_far.are }
 
 second_at :
     (texts : List (List ℕ)) (lines : List Line) (keys : List Key) (i : ℕ) (key : Key) (line : Line) → AreKeysOf texts lines keys → i < length keys →
     (get_or keys i key).second ≡ (get_or lines i line).second
-second_at texts [] [] i key line are lt = absurd (omega arith)
-second_at texts [] (next ∷ keys) i key line are lt = elim are [ ]
-second_at texts (other ∷ lines) [] i key line are lt = elim are [ ]
-second_at texts (other ∷ lines) (next ∷ keys) zero key line (here, later) lt = here.0
-second_at texts (other ∷ lines) (next ∷ keys) (suc i) key line (here, later) lt = second_at texts lines keys i key line later (omega arith)
+second_at texts lines keys i key line are lt =
+    let (one, own, keyed) = are.are i (get_or keys i key) (slice_get-get_or keys i key lt) in
+    keyed.0 ∙ ap (λ (l : Line). l.second) (sym (get_or_from_slice_get lines i one line own))
 
 -- the keys of starts in order are in order
 pub keys_in_order :
     (texts : List (List ℕ)) (lines : List Line) (keys : List Key) → AreKeysOf texts lines keys → AreAscending lines → AreInOrder keys
 keys_in_order texts lines keys are ascending = λ i j key le lt.
     let line : Line = record { second = 0; job = []; runs = [] } in
-    let many = same_many texts lines keys are in
+    let many = are.many in
     let order = ascending i j line le (omega (arith, many, lt)) in
     let one = second_at texts lines keys i key line are (omega arith) in
     let other = second_at texts lines keys j key line are lt in
     omega (arith, order, one, other)
 
--- the numbers of keys are those of texts
-pub keys_below :
-    (texts : List (List ℕ)) (lines : List Line) (keys : List Key) → AreKeysOf texts lines keys →
-    list_all (λ key. nat_lt key.runs (length texts)) keys ≡ true
-keys_below texts [] [] are = refl
-keys_below texts [] (key ∷ keys) are = elim are [ ]
-keys_below texts (line ∷ lines) [] are = elim are [ ]
-keys_below texts (line ∷ lines) (key ∷ keys) (here, later) =
-    and_from _ _ (lt-ltb key.runs (length texts) (number_within texts key.runs line.runs here.1)) (keys_below texts lines keys later)
-  where
-    number_within : (texts : List (List ℕ)) (number : ℕ) (text : List ℕ) → slice_get texts number ≡ Some text → number < length texts
-    number_within texts number text is = elim (cases_lt number (length texts)) [
-      | inl lt ↦ lt
-      | inr past ↦ (let none = slice_get_past texts number past in cc)
-    ]
+-- the keys of starts in order can be counted, by the number of texts
+pub keys_usable :
+    (texts : List (List ℕ)) (count : ℕ) (lines : List Line) (keys : List Key) → count ≡ length texts → AreKeysOf texts lines keys →
+    AreAscending lines → AreUsable count keys
+keys_usable texts count lines keys is are ascending = record {
+  ordered = keys_in_order texts lines keys are ascending;
+  below = λ place key at. (let (line, own, keyed) = are.are place key at in
+      let within = within_list texts key.runs line.runs keyed.1 in
+      omega (arith, within, is));
+}

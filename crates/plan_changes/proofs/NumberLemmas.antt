@@ -1,10 +1,10 @@
--- The numbers of what jobs run, one after the other: for the loops of `numbers_of` and `keys_by`, and for `key_of`.
-use Rattle.std.proofs.Common.{◌≡◌, ℕ, zero, suc, ◌+◌, ◌-◌, ◌<◌, ◌≤◌, List, [], ◌∷◌, ◌++◌, length, get_or, min, Some, option_map, arith, ap, refl, sym, ◌∙◌, inl, inr}
+-- The numbers of what jobs run, one after the other: for the loop of `numbers_of`, and for `NewKeys::new`.
+use Rattle.std.proofs.Common.{◌≡◌, ℕ, zero, suc, ◌+◌, ◌<◌, List, [], ◌∷◌, ◌++◌, length, map, Option, Some, option_map, arith, ap, refl, subst, sym, ◌∙◌, inl, inr}
 use Rattle.std.specs.Prelude.{slice_get, slice_index, unwrap_or}
 use Rattle.std.proofs.lemmas.Bool.{cases_lt}
-use Rattle.std.proofs.lemmas.List.{length-append}
+use Rattle.std.proofs.lemmas.List.{length-append, length-map}
 use Rattle.std.proofs.lemmas.Option.{slice_get-get_or, slice_get-map, slice_get_past}
-use Rattle.plan_changes.specs.Keys.{AreNumbersOf, HaveStayed}
+use Rattle.plan_changes.specs.Keys.{AreKeysOf, AreNumbersOf, HaveStayed, IsKeyOf, key_of_entry}
 use Rattle.plan_changes.specs.Lines.{line_of_entry, lines_of, texts_at}
 
 index_before : (numbers : List ℕ) (number k : ℕ) → k < length numbers → slice_index (numbers ++ number ∷ []) k ≡ slice_index numbers k
@@ -50,37 +50,44 @@ one_numbered first texts next jobs count numbers more number own stay pushed so_
   stay = λ number text is. stay number text (so_far.stay number text is);
 }
 
--- the last number is that of the empty text
 pub all_numbered :
-    (first texts : List (List ℕ)) (jobs : List (List ℕ × List ℕ)) (numbers : List ℕ) → AreNumbered first texts jobs (length jobs + 1) numbers →
+    (first texts : List (List ℕ)) (jobs : List (List ℕ × List ℕ)) (numbers : List ℕ) → AreNumbered first texts jobs (length jobs) numbers →
     AreNumbersOf texts jobs numbers
 all_numbered first texts jobs numbers are = record {
   many = are.many;
   are = λ job lt. are.are job (omega (arith, lt, are.many));
 }
 
-no_texts : (jobs : List (List ℕ × List ℕ)) (job : ℕ) → length jobs ≤ job → texts_at jobs job ≡ ([], [])
-no_texts jobs job past = ap (λ one. unwrap_or one ([], [])) (slice_get_past jobs job past)
-
-pub empty_last : (jobs : List (List ℕ × List ℕ)) (job : ℕ) → length jobs ≤ job → Some [] ≡ Some (texts_at jobs job).1
-empty_last jobs job past = ap (λ one. Some one.1) (sym (no_texts jobs job past))
-
--- the number of what the job of an entry runs
-pub number_at :
-    (texts : List (List ℕ)) (jobs : List (List ℕ × List ℕ)) (numbers : List ℕ) (job : ℕ) → AreNumbersOf texts jobs numbers →
-    slice_get texts (slice_index numbers (min job (length numbers - 1))) ≡ Some (texts_at jobs job).1
-number_at texts jobs numbers job are = elim (cases_lt job (length jobs)) [
-  | inl lt ↦ (let here : min job (length numbers - 1) ≡ job = omega (arith, are.many, lt) in
-      ap (λ k. slice_get texts (slice_index numbers k)) here ∙ are.are job (omega (arith, are.many, lt)))
-  | inr past ↦ (let here : min job (length numbers - 1) ≡ length jobs = omega (arith, are.many, past) in
-      ap (λ k. slice_get texts (slice_index numbers k)) here ∙ are.are (length jobs) (omega (arith, are.many))
-      ∙ sym (empty_last jobs (length jobs) (omega arith)) ∙ empty_last jobs job past)
+-- the number of what a job runs
+runs_at :
+    (first texts : List (List ℕ)) (jobs : List (List ℕ × List ℕ)) (numbers : List ℕ) (empty job : ℕ) → AreNumbersOf first jobs numbers →
+    HaveStayed first texts → slice_get texts empty ≡ Some [] →
+    slice_get texts (unwrap_or (slice_get numbers job) empty) ≡ Some (texts_at jobs job).1
+runs_at first texts jobs numbers empty job are stay none = elim (cases_lt job (length numbers)) [
+  | inl lt ↦ ap (λ one. slice_get texts (unwrap_or one empty)) (slice_get-get_or numbers job 0 lt)
+      ∙ stay (slice_index numbers job) (texts_at jobs job).1 (are.are job lt)
+  | inr past ↦ ap (λ one. slice_get texts (unwrap_or one empty)) (slice_get_past numbers job past) ∙ none
+      ∙ ap (λ (one : Option (List ℕ × List ℕ)). Some (unwrap_or one ([], [])).1) (sym (slice_get_past jobs job (omega (arith, are.many, past))))
 ]
 
--- the line of the entry at a place
-pub entry_at :
-    (jobs : List (List ℕ × List ℕ)) (entries : List (ℕ × ℕ)) (place : ℕ) (entry : ℕ × ℕ) → place < length entries →
-    entry ≡ get_or entries place entry → Some (line_of_entry jobs entry) ≡ slice_get (lines_of jobs entries) place
-entry_at jobs entries place entry lt is =
-    sym (slice_get-map (line_of_entry jobs) entries place
-    ∙ ap (option_map (line_of_entry jobs)) (slice_get-get_or entries place entry lt ∙ ap Some (sym is)))
+-- what is at a place of a list of values
+value_at :
+    {X Y : Type 0} (f : X → Y) (xs : List X) (place : ℕ) (y : Y) → slice_get (map f xs) place ≡ Some y →
+    (x : X) × (slice_get xs place ≡ Some x) × (f x ≡ y)
+value_at f [] place y is = absurd cc
+value_at f (x ∷ xs) zero y is = (x, refl, cc)
+value_at f (x ∷ xs) (suc place) y is = value_at f xs place y is
+
+-- the keys of all entries
+pub new_keyed :
+    (first texts : List (List ℕ)) (jobs : List (List ℕ × List ℕ)) (numbers : List ℕ) (empty : ℕ) (entries : List (ℕ × ℕ)) →
+    AreNumbersOf first jobs numbers → HaveStayed first texts → slice_get texts empty ≡ Some [] →
+    AreKeysOf texts (lines_of jobs entries) (map (key_of_entry numbers empty) entries)
+new_keyed first texts jobs numbers empty entries are stay none = record {
+  many = length-map entries (key_of_entry numbers empty) ∙ sym (length-map entries (line_of_entry jobs));
+  are = λ place key at. (let (entry, own, same) = value_at (key_of_entry numbers empty) entries place key at in (
+    line_of_entry jobs entry,
+    slice_get-map (line_of_entry jobs) entries place ∙ ap (option_map (line_of_entry jobs)) own,
+    subst (IsKeyOf texts (line_of_entry jobs entry)) same (refl, runs_at first texts jobs numbers empty entry.1 are stay none),
+  ));
+}

@@ -1,18 +1,16 @@
 -- The numbers of texts that starts run.
-use Rattle.std.proofs.Common.{◌≡◌, ◌≢◌, ℕ, zero, suc, ◌+◌, ◌<◌, Bool, true, false, cond, List, [], ◌∷◌, ◌++◌, length, map, Option, None, Some, refl, ap, sym, ◌∙◌, arith}
+use Rattle.std.proofs.Common.{◌≡◌, ℕ, zero, suc, Bool, true, false, cond, List, [], ◌∷◌, ◌++◌, map, Some, option_map, refl, ap, sym, ◌∙◌}
 use Rattle.std.specs.Prelude.{slice_get}
-use Rattle.std.specs.List.{AllByRecursion, IsDistinct, list_any}
-use Rattle.std.specs.Str.{bytes_eq}
+use Rattle.std.specs.List.{AllByRecursion, IsDistinct}
 use Rattle.std.proofs.lemmas.List.{map-append}
+use Rattle.std.proofs.lemmas.Option.{slice_get-map}
 use Rattle.plan_changes.specs.Keys.{AreEachOnce, HaveStayed}
 
 -- the text of the key with a number
 pub text_at :
     {K : Type 0} (f : K → List ℕ) (keys : List K) (number : ℕ) (key : K) → slice_get keys number ≡ Some key →
     slice_get (map f keys) number ≡ Some (f key)
-text_at f [] number key is = cc
-text_at f (k ∷ keys) zero key is = ap Some (ap f (let same : k ≡ key = cc in same))
-text_at f (k ∷ keys) (suc number) key is = text_at f keys number key is
+text_at f keys number key is = slice_get-map f keys number ∙ ap (option_map f) is
 
 key_of_text :
     {K : Type 0} (P : K → Type 0) (f : K → List ℕ) (keys : List K) (number : ℕ) (text : List ℕ) → AllByRecursion P keys →

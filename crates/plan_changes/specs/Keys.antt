@@ -1,6 +1,5 @@
 -- The keys of starts: their seconds, and the numbers of what they run.
-use Rattle.std.specs.Prelude.{◌≡◌, ⊤, ℕ, ◌+◌, ◌<◌, ◌==◌, ◌&&◌, Bool, List, [], ◌∷◌, Some, count_by, length, nat_lt, slice_get, slice_index, IsTrue}
-use Rattle.std.specs.List.{list_all}
+use Rattle.std.specs.Prelude.{◌≡◌, ℕ, ◌<◌, ◌==◌, ◌&&◌, Bool, List, Some, count_by, length, slice_get, slice_index, unwrap_or}
 use Rattle.std.specs.List.Sorted.{IsNonDecreasingBy}
 use Rattle.plan_baseline.specs.Line.{Line}
 use Rattle.plan_changes.specs.declared.keys.Key.{Key}
@@ -10,11 +9,10 @@ use Rattle.plan_changes.specs.Lines.{texts_at}
 abbrev pub IsKeyOf : (texts : List (List ℕ)) → Line → Key → Type 0
 IsKeyOf texts line key = (key.second ≡ line.second) × (slice_get texts key.runs ≡ Some line.runs)
 
--- these are the keys of starts, in order
-abbrev pub AreKeysOf : (texts : List (List ℕ)) → List Line → List Key → Type 0
-AreKeysOf texts [] [] = ⊤
-AreKeysOf texts (line ∷ lines) (key ∷ keys) = IsKeyOf texts line key × AreKeysOf texts lines keys
-AreKeysOf texts lines keys = ⊥
+-- these are the keys of starts, in order: as many, and each that of the start at its place
+pub record AreKeysOf (texts : List (List ℕ)) (lines : List Line) (keys : List Key) : Type 0 where
+  pub many : length keys ≡ length lines
+  pub are : (place : ℕ) (key : Key) → slice_get keys place ≡ Some key → (line : Line) × (slice_get lines place ≡ Some line) × IsKeyOf texts line key
 
 -- no text has two numbers
 abbrev pub AreEachOnce : (texts : List (List ℕ)) → Type 0
@@ -25,9 +23,17 @@ AreEachOnce texts =
 abbrev pub HaveStayed : (old new : List (List ℕ)) → Type 0
 HaveStayed old new = (number : ℕ) (text : List ℕ) → slice_get old number ≡ Some text → slice_get new number ≡ Some text
 
--- these are the numbers of what jobs run, by the numbers of the jobs, and then that of the empty text, which no job runs (agenda)
+-- the key of a start that has the number of what it runs
+abbrev pub key_of_start : (start : ℕ × ℕ) → Key
+key_of_start start = record { second = start.0; runs = start.1 }
+
+-- the key of an entry, by the numbers of what jobs run; other jobs run the empty text, whose number is given, too
+abbrev pub key_of_entry : (numbers : List ℕ) (empty : ℕ) → (entry : ℕ × ℕ) → Key
+key_of_entry numbers empty entry = record { second = entry.0; runs = unwrap_or (slice_get numbers entry.1) empty }
+
+-- these are the numbers of what jobs run, by the numbers of the jobs
 pub record AreNumbersOf (texts : List (List ℕ)) (jobs : List (List ℕ × List ℕ)) (numbers : List ℕ) : Type 0 where
-  pub many : length numbers ≡ length jobs + 1
+  pub many : length numbers ≡ length jobs
   pub are : (job : ℕ) → job < length numbers → slice_get texts (slice_index numbers job) ≡ Some (texts_at jobs job).1
 
 -- two keys are the same
@@ -42,6 +48,7 @@ copies_of key keys = count_by (is_same_key key) keys
 abbrev pub AreInOrder : List Key → Type 0
 AreInOrder keys = IsNonDecreasingBy (λ key. key.second) keys
 
--- each number is below a bound
-abbrev pub AreBelow : (bound : ℕ) → List Key → Type 0
-AreBelow bound keys = IsTrue (list_all (λ key. nat_lt key.runs bound) keys)
+-- keys are in order, and each number is below a bound
+pub record AreUsable (bound : ℕ) (keys : List Key) : Type 0 where
+  pub ordered : AreInOrder keys
+  pub below : (place : ℕ) (key : Key) → slice_get keys place ≡ Some key → key.runs < bound

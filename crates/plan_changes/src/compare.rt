@@ -1,15 +1,15 @@
 //! The starts that only one of two agendas has.
 
-ghost use Rattle.std.specs.Prelude.{IfOk, OnOk};
+ghost use Rattle.std.specs.Prelude.{IfOk};
 ghost use Rattle.plan_changes.specs.Changes.{AreAscending, AreChanges};
-ghost use Rattle.plan_changes.specs.Keys.{AreKeysOf, HaveStayed};
 ghost use Rattle.plan_changes.specs.Lines.{lines_of};
 
 use crate::change::{Change, ChangeKind};
+use crate::earlier_keys::EarlierKeys;
 use crate::job_lines::JobLines;
-use crate::keys::{Key, RunTexts};
+use crate::keys::{Keys, RunTexts};
 use crate::lacking::push_lacking;
-use crate::new_keys::keys_now;
+use crate::new_keys::NewKeys;
 use plan_baseline::Baseline;
 use plan_collect::Agenda;
 use std::alloc::{AllocError, Global};
@@ -33,8 +33,8 @@ pub fn changes(
     ensures { IfOk result (λ changes. AreChanges before.now.lines (lines_of jobs.now now.now.entries) changes.items) }
 {
     let mut texts = RunTexts::new(alloc);
-    let before = keys_before(alloc, before, &mut texts)?;
-    let now = keys_now(alloc, now.entries(), jobs, &mut texts)?;
+    let before = EarlierKeys::new(alloc, before, &mut texts)?;
+    let now = NewKeys::new(alloc, now.entries(), jobs, &mut texts)?;
     let count = texts.len();
     // There are at least as many changes.
     let mut changes = Vec::with_capacity(alloc, before.len().abs_diff(now.len()))?;
@@ -49,24 +49,4 @@ pub fn changes(
     push_lacking(alloc, ChangeKind::Added, &now, &before, count, &mut changes)?;
     changes.sort_unstable();
     Ok(changes)
-}
-
-// Returns the keys of the starts of an earlier agenda, in order.
-fn keys_before<'a>(
-    alloc: Global,
-    before: &'a Baseline,
-    texts: &mut RunTexts<'a>,
-) -> Result<Vec<Key>, AllocError>
-    ensures keys { IfOk result (λ keys. AreKeysOf texts.new before.now.lines keys.items) }
-    ensures ascending { AreAscending before.now.lines }
-    ensures stay { OnOk result (HaveStayed texts.old texts.new) }
-{
-    let mut keys = Vec::with_capacity(alloc, before.len())?;
-    for place in 0..before.len() {
-        if let Some(line) = before.get(place) {
-            let key = texts.key_of(&line)?;
-            keys.push(key)?;
-        }
-    }
-    Ok(keys)
 }

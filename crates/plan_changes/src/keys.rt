@@ -1,11 +1,9 @@
 //! The keys of starts: their seconds, and the numbers of what they run.
 
 ghost use Rattle.std.specs.Prelude.{◌≡◌, [], IfOk, IsTrue, OnOk, Some, length, slice_get};
-ghost use Rattle.plan_baseline.specs.Line.{line_of};
-ghost use Rattle.plan_changes.specs.Keys.{AreEachOnce, HaveStayed, IsKeyOf};
+ghost use Rattle.plan_changes.specs.Keys.{AreEachOnce, HaveStayed};
 
 use indexmap::IndexSet;
-use plan_baseline::Listed;
 use std::alloc::{AllocError, Global};
 use std::marker::Model;
 
@@ -16,6 +14,24 @@ pub(crate) struct Key {
     pub(crate) second: u64,
     /// The number of what it runs, from 0.
     pub(crate) runs: usize,
+}
+
+/// The keys of the starts of an agenda, in order. They are made when they are read, from what takes less memory.
+pub(crate) trait Keys {
+    ghost use Rattle.std.specs.Prelude.{◌≡◌, ◌<◌, List, Some, length, slice_get};
+    ghost use Rattle.plan_changes.specs.declared.keys.Key.{Key};
+
+    /// All keys, in order.
+    ghost keys: { Self → List Key };
+
+    /// Returns the number of keys.
+    fn len(&self) -> usize
+        ensures { result ≡ length (keys self.now) };
+
+    /// Returns the key at a place, from 0. There must be one.
+    fn at(&self, place: usize) -> Key
+        requires { place < length (keys self.now) }
+        ensures { slice_get (keys self.now) place ≡ Some result };
 }
 
 /// The texts that starts run, each once: the number of a text is its place.
@@ -53,29 +69,22 @@ impl<'a> RunTexts<'a> {
         self.texts.len()
     }
 
-    /// Returns the key of a start. Its text is added if it is new.
-    ///
-    /// # Errors
-    ///
-    /// `AllocError` if an allocation fails.
-    pub(crate) fn key_of(&mut self, line: &Listed<'a>) -> Result<Key, AllocError>
-        ensures key { IfOk result (IsKeyOf self.new (line_of line.now)) }
-        ensures kept { OnOk result (HaveStayed self.old self.new) }
-    {
-        let runs = self.number_of(line.runs)?;
-        self.last = runs;
-        Ok(Key {
-            second: line.second,
-            runs,
-        })
-    }
-
-    /// Returns the number of a text, which is added if it is new. Most often it is that of the last text, or the next one.
+    /// Returns the number of a text, which is added if it is new.
     ///
     /// # Errors
     ///
     /// `AllocError` if an allocation fails.
     pub(crate) fn number_of(&mut self, text: &'a [u8]) -> Result<usize, AllocError>
+        ensures number { IfOk result (λ number. slice_get self.new number ≡ Some text.now) }
+        ensures kept { OnOk result (HaveStayed self.old self.new) }
+    {
+        let number = self.find(text)?;
+        self.last = number;
+        Ok(number)
+    }
+
+    // Returns the number of a text, which is added if it is new. Most often it is that of the last text, or the next one.
+    fn find(&mut self, text: &'a [u8]) -> Result<usize, AllocError>
         ensures number { IfOk result (λ number. slice_get self.new number ≡ Some text.now) }
         ensures kept { OnOk result (HaveStayed self.old self.new) }
     {

@@ -1,7 +1,7 @@
-use Rattle.std.proofs.Common.{◌≡◌, ap, sym, ◌∙◌, Some, slice_get, map}
+use Rattle.std.proofs.Common.{ap, sym, ◌∙◌, Some, slice_get, map}
 use Rattle.std.proofs.lemmas.Slice.Eq.{bytes_eq-Decides}
 use Rattle.plan_changes.proofs.TextLemmas.{stay_inserted, text_at}
-use Rattle.plan_changes.proofs.keys.RunTexts.number_of.Goals as goal
+use Rattle.plan_changes.proofs.keys.RunTexts.find.Goals as goal
 
 pub returns-clause-number : goal.returns-clause-number
 returns-clause-number c =
