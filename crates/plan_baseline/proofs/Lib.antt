@@ -5,7 +5,7 @@ pub mod LoopLemmas
 pub mod OrderLemmas
 pub mod PlainLemmas
 pub mod ReadBackLemmas
-pub mod RepeatLemmas
+pub mod TailLemmas
 pub mod TimeLemmas
 pub mod UniqueLemmas
 pub mod Utf8Lemmas

@@ -5,6 +5,7 @@ use Rattle.std.specs.List.{list_all}
 use Rattle.std.proofs.lemmas.Bool.{and_from, and_parts, le-leb, leb-true}
 use Rattle.plan_sets.specs.Limits.{end_second}
 use Rattle.plan_baseline.specs.declared.lines.Place.{Place}
+use Rattle.plan_baseline.specs.declared.tails.Tail.{Tail}
 use Rattle.plan_baseline.specs.Line.{AreOrdered, Line, Listing, line_at}
 use Rattle.plan_baseline.specs.Reading.{AreRead, IsReading}
 
@@ -57,14 +58,14 @@ ordered text listing (Some (head, rest), begins, (Ok lines, are, same)) =
 
 -- the second at a place is in the planner's years
 pub year_at :
-    (text : List ℕ) (places : List Place) (number : ℕ) (other : Place) →
-    IsTrue (list_all (λ line. nat_le line.second end_second) (map (line_at text) places)) → number < length places →
+    (text : List ℕ) (tails : List Tail) (places : List Place) (number : ℕ) (other : Place) →
+    IsTrue (list_all (λ line. nat_le line.second end_second) (map (line_at text tails) places)) → number < length places →
     (get_or places number other).second ≤ end_second
-year_at text [] number other all lt = absurd (omega arith)
-year_at text (first ∷ places) zero other all lt =
+year_at text tails [] number other all lt = absurd (omega arith)
+year_at text tails (first ∷ places) zero other all lt =
     leb-true first.second end_second
-    (and_parts (nat_le first.second end_second) (list_all (λ one. nat_le one.second end_second) (map (line_at text) places)) all).0
-year_at text (first ∷ places) (suc number) other all lt =
-    year_at text places number other
-    (and_parts (nat_le first.second end_second) (list_all (λ one. nat_le one.second end_second) (map (line_at text) places)) all).1
+    (and_parts (nat_le first.second end_second) (list_all (λ one. nat_le one.second end_second) (map (line_at text tails) places)) all).0
+year_at text tails (first ∷ places) (suc number) other all lt =
+    year_at text tails places number other
+    (and_parts (nat_le first.second end_second) (list_all (λ one. nat_le one.second end_second) (map (line_at text tails) places)) all).1
     (omega arith)

@@ -1,17 +1,15 @@
 -- The text of an agenda is read back.
-use Rattle.std.proofs.Common.{◌≡◌, ℕ, zero, suc, ◌+◌, ◌-◌, ◌<◌, ◌≤◌, ◌^◌, ◌==◌, ◌||◌, nat_lt, Bool, true, false, true≢false, if◌then◌else◌, ℤ, pos, negsuc, nat_abs, List, [], ◌∷◌, ◌++◌, codes, decimal, length, map, Option, None, Some, Ok, min, option_map, slice_get, ap, arith, inl, inr, refl, subst, sym, ◌∙◌}
+use Rattle.std.proofs.Common.{◌≡◌, ℕ, zero, suc, ◌+◌, ◌-◌, ◌<◌, ◌≤◌, ◌^◌, ◌==◌, ◌||◌, nat_lt, Bool, true, false, true≢false, if◌then◌else◌, ℤ, pos, negsuc, nat_abs, List, [], ◌∷◌, ◌++◌, codes, decimal, length, map, Option, None, Some, Ok, min, option_map, slice_get, arith, inl, inr, refl, subst, sym}
 use Rattle.std.proofs.lemmas.Bool.{and_parts}
 use Rattle.std.proofs.lemmas.Bool.Decides.{nat_tests}
 use Rattle.std.proofs.lemmas.Fmt.{IsAscii-decimal, decimal_is_IsNumeral}
 use Rattle.std.proofs.lemmas.List.{append_assoc}
-use Rattle.std.proofs.lemmas.List.Folds.{list_any-append}
 use Rattle.std.proofs.lemmas.Option.{slice_get-map}
-use Rattle.std.proofs.lemmas.Str.{IsUtf8-append, IsUtf8-from_ascii, is_utf8-from_IsUtf8}
+use Rattle.std.proofs.lemmas.Str.{IsUtf8-append, IsUtf8-from_ascii}
 use Rattle.std.proofs.lemmas.Str.Parse.{digit_from_value}
 use Rattle.std.specs.List.{flat_map, list_all}
-use Rattle.std.specs.Str.{IsAscii, IsUtf8}
+use Rattle.std.specs.Str.{IsUtf8}
 use Rattle.std.specs.Str.Parse.{AllDigits}
-use Rattle.plan_texts.specs.Text.{cut_at}
 use Rattle.plan_sets.specs.Limits.{end_second}
 use Rattle.plan_sets.specs.Moment.{moment_text_of}
 use Rattle.plan_clock.specs.Rows.{is_bounded, is_near, natural, row_at, shown}
@@ -26,37 +24,13 @@ use Rattle.plan_write.specs.TimeFields.{time_text}
 use Rattle.plan_write.specs.declared.formats.Format.{Format}
 use Rattle.plan_baseline.specs.Line.{Line}
 use Rattle.plan_baseline.specs.ReadBack.{AgendasAreReadBack, AreInOrder, AreReadable, HasNone, IsAgenda, IsColumn, IsReadable, IsZone, line_of_job, listing_of}
-use Rattle.plan_baseline.specs.Reading.{AreRead, BeginsWithHeader, BeginsWithLine, Head, IsReading, columns, first_line, is_mark, second_column, utf8_line}
+use Rattle.plan_baseline.specs.Reading.{AreRead, BeginsWithHeader, BeginsWithLine, Head, IsReading, is_mark}
 use Rattle.plan_baseline.specs.Times.{IsLocal, IsTimeOf}
 use Rattle.plan_baseline.proofs.CutLemmas.{cut_first}
+use Rattle.plan_baseline.proofs.LineLemmas.{ascii_utf8, columns_first, line_first, none_append, tab_utf8}
 use Rattle.plan_baseline.proofs.LoopLemmas.{all_read, one_more}
 use Rattle.plan_baseline.proofs.PlainLemmas.{Plain, moment_plain, plain_none, plain_utf8, time_plain}
 use Rattle.plan_baseline.proofs.UniqueLemmas.{reading_unique}
-
--- ---- columns
-
-pub none_append : (byte : ℕ) (a b : List ℕ) → HasNone byte a → HasNone byte b → HasNone byte (a ++ b)
-none_append byte a b first second = list_any-append (λ x. x == byte) a b ∙ (λ i. first i || second i)
-
-each_below : (text : List ℕ) → list_all (λ b. nat_lt b 128) text ≡ true → IsAscii text
-each_below [] all k = omega arith
-each_below (b ∷ more) all zero = grind (arith, nat_tests)
-each_below (b ∷ more) all (suc k) = each_below more (and_parts (nat_lt b 128) (list_all (λ b. nat_lt b 128) more) all).1 k
-
-ascii_utf8 : (text : List ℕ) → list_all (λ b. nat_lt b 128) text ≡ true → IsUtf8 text
-ascii_utf8 text all = IsUtf8-from_ascii text (each_below text all)
-
-tab_utf8 : (rest : List ℕ) → IsUtf8 rest → IsUtf8 (9 ∷ rest)
-tab_utf8 rest utf8 = IsUtf8-append (9 ∷ []) rest (ascii_utf8 (9 ∷ []) refl) utf8
-
-pub line_first : (text line rest : List ℕ) → text ≡ line ++ 10 ∷ rest → HasNone 10 line → IsUtf8 line → first_line text ≡ Some (line, rest)
-line_first text line rest whole none utf8 =
-    ap (λ t. utf8_line (cut_at (10 ∷ []) t)) whole ∙ ap utf8_line (cut_first 10 line rest none)
-    ∙ ap (λ is. if is then Some (line, rest) else None) (is_utf8-from_IsUtf8 line utf8)
-
-pub columns_first : (a b c : List ℕ) → HasNone 9 a → HasNone 9 b → columns (a ++ 9 ∷ (b ++ 9 ∷ c)) ≡ Some (a, (b, c))
-columns_first a b c first second =
-    ap second_column (cut_first 9 a (b ++ 9 ∷ c) first) ∙ ap (option_map (λ parts. (a, parts))) (cut_first 9 b c second)
 
 -- ---- times
 

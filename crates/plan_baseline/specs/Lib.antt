@@ -1,6 +1,6 @@
 pub mod Causes
-pub mod Known
 pub mod Line
 pub mod ReadBack
 pub mod Reading
+pub mod Tails
 pub mod Times

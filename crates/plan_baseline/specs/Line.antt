@@ -1,5 +1,5 @@
 -- The starts of an agenda, as its lines have them (agenda).
-use Rattle.std.specs.Prelude.{ℕ, ◌-◌, ◌&&◌, nat_le, nat_lt, Bool, IsTrue, List, drop, length, take, refl}
+use Rattle.std.specs.Prelude.{ℕ, ◌-◌, ◌<◌, nat_le, IsTrue, List, drop, length, slice_index_or, take, refl}
 use Rattle.std.specs.List.{list_all}
 use Rattle.std.specs.List.Sorted.{IsNonDecreasingBy}
 use Rattle.std.specs.Coded.{Coded, code_by, coded×, coded_list, coded_ℕ}
@@ -7,6 +7,7 @@ use Rattle.plan_sets.specs.Limits.{end_second}
 use Rattle.plan_next.specs.Span.{Bounds, bounds_code}
 use Rattle.plan_baseline.specs.declared.listed.Listed.{Listed}
 use Rattle.plan_baseline.specs.declared.lines.Place.{Place}
+use Rattle.plan_baseline.specs.declared.tails.Tail.{Tail}
 
 -- a start as a line has it: its second, the name of the job, and what the job runs
 pub record Line : Type 0 where
@@ -39,27 +40,26 @@ line_of listed = record { second = listed.second; job = listed.job.now; runs = l
 abbrev pub part : (from upto : ℕ) → List ℕ → List ℕ
 part from upto text = take (upto - from) (drop from text)
 
--- the line at a place of a text
-abbrev pub line_at : (text : List ℕ) → Place → Line
-line_at text place = record {
-  second = place.second;
-  job = part place.job (place.runs - 1) text;
-  runs = part place.runs place.end text;
+-- an empty tail, for a number that no tail has
+abbrev pub no_tail : Tail
+no_tail = record { job = 0; runs = 0; end = 0 }
+
+-- the line of a second with a tail of a text
+abbrev pub line_with : (text : List ℕ) → (second : ℕ) → Tail → Line
+line_with text second tail = record {
+  second = second;
+  job = part tail.job (tail.runs - 1) text;
+  runs = part tail.runs tail.end text;
 }
 
--- the parts of the line and its newline are in a text of so many bytes
-abbrev pub is_within : (size : ℕ) → Place → Bool
-is_within size place = nat_lt place.job place.runs && (nat_le place.runs place.end && nat_lt place.end size)
+-- the line at a place of a text whose tails these are
+abbrev pub line_at : (text : List ℕ) → (tails : List Tail) → Place → Line
+line_at text tails place = line_with text place.second (slice_index_or tails place.tail no_tail)
+
+-- the tail of a place is one of these
+abbrev pub IsPlace : (tails : List Tail) → Place → Type 0
+IsPlace tails place = place.tail < length tails
 
 -- lines are in the order of their seconds, which are in the planner's years
 abbrev pub AreOrdered : List Line → Type 0
 AreOrdered lines = IsNonDecreasingBy (λ line. line.second) lines × IsTrue (list_all (λ line. nat_le line.second end_second) lines)
-
--- the place of a line that ends at a byte
-abbrev pub place_of : Line → (end : ℕ) → Place
-place_of line end = record {
-  second = line.second;
-  job = end - length line.runs - 1 - length line.job;
-  runs = end - length line.runs;
-  end = end;
-}

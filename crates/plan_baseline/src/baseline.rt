@@ -1,18 +1,18 @@
 //! An agenda that was written earlier.
 
-ghost use Rattle.std.specs.Prelude.{◌≡◌, ◌+◌, ◌≤◌, Err, IfErr, IfOk, IfSome, IsTrue, Ok, drop, length, map, option_map, slice_get};
-ghost use Rattle.std.specs.List.{list_all};
+ghost use Rattle.std.specs.Prelude.{◌≡◌, ◌+◌, ◌≤◌, All, Err, IfErr, IfOk, IfSome, Ok, drop, length, map, option_map, slice_get};
 ghost use Rattle.plan_collect.specs.Limits.{most_entries};
 ghost use Rattle.plan_sets.specs.Limits.{end_second};
-ghost use Rattle.plan_baseline.specs.Line.{AreOrdered, is_within, line_at, line_of};
+ghost use Rattle.plan_baseline.specs.Line.{AreOrdered, IsPlace, line_at, line_of};
 ghost use Rattle.plan_baseline.specs.Reading.{AreReadAfter, head_of, IsFaultOf, IsReading};
+ghost use Rattle.plan_baseline.specs.Tails.{IsTail};
 
 use crate::fault::BaselineFault;
-use crate::lines::{Header, Place, read_header, read_line};
+use crate::known::KnownTime;
+use crate::lines::{Header, Place, read_header, read_second};
 use crate::listed::Listed;
-use crate::repeats::KnownLine;
+use crate::tails::{GUESSES, Tail, tail_of};
 use plan_next::Span;
-use simdutf8::is_utf8;
 use std::alloc::Global;
 use std::marker::Model;
 
@@ -21,13 +21,14 @@ use std::marker::Model;
 pub struct Baseline {
     span: Span,
     text: Vec<u8>,
+    tails: Vec<Tail>,
     places: Vec<Place>,
 }
 
 impl Model for Baseline {
-    ghost use Rattle.std.specs.Prelude.{IsTrue, length, map};
-    ghost use Rattle.std.specs.List.{list_all};
-    ghost use Rattle.plan_baseline.specs.Line.{AreOrdered, Listing, is_within, line_at, listing_code};
+    ghost use Rattle.std.specs.Prelude.{All, map};
+    ghost use Rattle.plan_baseline.specs.Line.{AreOrdered, IsPlace, Listing, line_at, listing_code};
+    ghost use Rattle.plan_baseline.specs.Tails.{IsTail};
 
     ghost Value = { Listing };
 
@@ -35,11 +36,12 @@ impl Model for Baseline {
 
     ghost view = { λ baseline. record {
       span = baseline.span;
-      lines = map (line_at baseline.text.items) baseline.places.items;
+      lines = map (line_at baseline.text.items baseline.tails.items) baseline.places.items;
     } };
 
-    ghost invariant = { λ baseline. IsTrue (list_all (is_within (length baseline.text.items)) baseline.places.items)
-        × AreOrdered (map (line_at baseline.text.items) baseline.places.items) };
+    ghost invariant = { λ baseline. All (IsTail baseline.text.items) baseline.tails.items
+        × All (IsPlace baseline.tails.items) baseline.places.items
+        × AreOrdered (map (line_at baseline.text.items baseline.tails.items) baseline.places.items) };
 }
 
 impl Baseline {
@@ -52,8 +54,13 @@ impl Baseline {
         ensures read { IfOk result (λ baseline. IsReading text.items (Ok baseline)) }
         ensures fault { IfErr result (IsFaultOf (λ number. IsReading text.items (Err number))) }
     {
-        let (span, places) = parts_of(alloc, &text)?;
-        Ok(Baseline { span, text, places })
+        let (span, tails, places) = parts_of(alloc, &text)?;
+        Ok(Baseline {
+            span,
+            text,
+            tails,
+            places,
+        })
     }
 
     /// Returns the span of the agenda.
@@ -77,48 +84,59 @@ impl Baseline {
         ensures years { IfSome result (λ listed. listed.second ≤ end_second) }
     {
         let place = self.places.get(place)?;
+        let tail = self.tails[place.tail];
         Some(Listed {
             second: place.second,
-            job: &self.text[place.job..place.runs - 1],
-            runs: &self.text[place.runs..place.end],
+            job: &self.text[tail.job..tail.runs - 1],
+            runs: &self.text[tail.runs..tail.end],
         })
     }
 }
 
-// Returns the span of the agenda of a text, and the places of its lines.
-fn parts_of(alloc: Global, text: &[u8]) -> Result<(Span, Vec<Place>), BaselineFault>
-    ensures within { IfOk result (λ parts. IsTrue (list_all (is_within (length text.now)) parts.1.items)) }
-    ensures read { IfOk result (λ parts. IsReading text.now (Ok (record { span = parts.0; lines = map (line_at text.now) parts.1.items }))) }
+// Returns the span of the agenda of a text, the tails of its lines, and the places of its lines.
+fn parts_of(alloc: Global, text: &[u8]) -> Result<(Span, Vec<Tail>, Vec<Place>), BaselineFault>
+    ensures tails { IfOk result (λ parts. All (IsTail text.now) parts.1.items) }
+    ensures places { IfOk result (λ parts. All (IsPlace parts.1.items) parts.2.items) }
+    ensures read { IfOk result (λ parts. IsReading text.now (Ok (record { span = parts.0; lines = map (line_at text.now parts.1.items) parts.2.items }))) }
     ensures fault { IfErr result (IsFaultOf (λ number. IsReading text.now (Err number))) }
 {
     let Some(header) = read_header(text) else {
         return Err(BaselineFault::BadLine(1));
     };
-    let places = places_of(alloc, text, header)?;
-    Ok((header.span(), places))
+    let (tails, places) = places_of(alloc, text, header)?;
+    Ok((header.span(), tails, places))
 }
 
-// Returns the places of the lines after the header of a text.
-fn places_of(alloc: Global, text: &[u8], header: Header) -> Result<Vec<Place>, BaselineFault>
+// Returns the tails and the places of the lines after the header of a text.
+fn places_of(
+    alloc: Global,
+    text: &[u8],
+    header: Header,
+) -> Result<(Vec<Tail>, Vec<Place>), BaselineFault>
     requires start { header.start ≤ length text.now }
     requires few { header.count ≤ most_entries }
-    ensures within { IfOk result (λ places. IsTrue (list_all (is_within (length text.now)) places.items)) }
-    ensures read { IfOk result (λ places. AreReadAfter (head_of header) (drop header.start text.now) (Ok (map (line_at text.now) places.items))) }
+    ensures tails { IfOk result (λ parts. All (IsTail text.now) parts.0.items) }
+    ensures places { IfOk result (λ parts. All (IsPlace parts.0.items) parts.1.items) }
+    ensures read { IfOk result (λ parts. AreReadAfter (head_of header) (drop header.start text.now) (Ok (map (line_at text.now parts.0.items) parts.1.items))) }
     ensures fault { IfErr result (IsFaultOf (λ number. AreReadAfter (head_of header) (drop header.start text.now) (Err number))) }
 {
-    let is_utf8 = is_utf8(&text[header.start..]);
-    let mut places = Vec::new(alloc);
-    let mut known = KnownLine::first();
-    let (mut at, mut from) = (header.start, header.span.since());
+    let mut known = KnownTime::first();
+    let mut tails = Vec::new(alloc);
+    let mut guesses = [0; GUESSES];
+    let mut places = Vec::with_capacity(alloc, header.count as usize)?;
+    let (mut left, mut from, mut last) = (&text[header.start..], header.span.since(), 0);
     for number in 0..header.count {
-        let Some(place) = read_line(text, is_utf8, at, from, header.span.upto(), &mut known) else {
+        let Some((second, rest)) = read_second(left, from, header.span.upto(), &mut known) else {
             return Err(BaselineFault::BadLine(number + 2));
         };
-        places.push(place)?;
-        (at, from) = (place.end + 1, place.second);
+        let Some((tail, after)) = tail_of(text, &mut tails, &mut guesses, last, rest)? else {
+            return Err(BaselineFault::BadLine(number + 2));
+        };
+        places.push(Place { second, tail })?;
+        (left, from, last) = (after, second, tail);
     }
-    if at < text.len() {
+    if !left.is_empty() {
         return Err(BaselineFault::BadLine(header.count + 2));
     }
-    Ok(places)
+    Ok((tails, places))
 }

@@ -45,14 +45,7 @@ impl<'a> KnownTime<'a> {
         }
     }
 
-    /// Returns the number of bytes of its text.
-    #[inline(always)]
-    pub(crate) fn len(&self) -> usize {
-        self.text.len()
-    }
-
-    /// Reads the time in the first column of a line, and knows it from then on. Returns its second, and what follows the tab
-    /// after it.
+    /// Reads the time that a text starts with, and knows it from then on. Returns its second, and what follows the tab after it.
     #[inline(always)]
     pub(crate) fn read_first(&mut self, line: &'a [u8]) -> Option<(u64, &'a [u8])>
         ensures some { IfSome result (λ parts. BeginsWithTime line.now parts.0 parts.1.now) }
@@ -70,10 +63,10 @@ impl<'a> KnownTime<'a> {
         Some((second, rest))
     }
 
-    /// Reads a time that is later by its time of day alone, and knows it from then on. Returns its second; or nothing, which
-    /// says nothing of it.
+    // Reads a time that is later by its time of day alone, and knows it from then on. Returns its second; or nothing, which
+    // says nothing of it.
     #[inline(always)]
-    pub(crate) fn read_later(&mut self, time: &'a [u8]) -> Option<u64>
+    fn read_later(&mut self, time: &'a [u8]) -> Option<u64>
         ensures { IfSome result (IsTimeOf time.now) }
     {
         let Some(clock) = clock_after(self.text, self.second, self.clock, time) else {
@@ -117,22 +110,12 @@ fn clock_after(known: &[u8], second: u64, clock: u64, time: &[u8]) -> Option<u64
     requires clock { HasClock known.now clock }
     ensures { IfSome result (IsLater second clock time.now) }
 {
-    let Some((date, known_text, zone)) = parts_of(known) else {
+    let Some((date, _, zone)) = parts_of(known) else {
         return None;
     };
     let Some((other_date, text, other_zone)) = parts_of(time) else {
         return None;
     };
-    // The same time of day is told at once, by the digits that differ most often.
-    if text[4] == known_text[4]
-        && text[7] == known_text[7]
-        && text[3] == known_text[3]
-        && text[1] == known_text[1]
-        && text[6] == known_text[6]
-        && text[0] == known_text[0]
-    {
-        return None;
-    }
     if other_date != date || other_zone != zone {
         return None;
     }

@@ -4,4 +4,5 @@ use Rattle.plan_baseline.proofs.baseline.places_of.Given as goal
 
 -- the lines so far are read
 abbrev pub invariant-loop-number : goal.invariant-loop-number
-invariant-loop-number l = IsAt l.is_utf8 l.text l.header.start (head_of l.header) l.number l.at l.from l.places.items
+invariant-loop-number l =
+    IsAt l.text l.header.start (head_of l.header) l.number l.from l.left l.tails.items l.places.items

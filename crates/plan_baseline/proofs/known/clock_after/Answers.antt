@@ -14,7 +14,7 @@ returns c =
     let other = c.in-Some-parts_of.ensures in
     let date = same_text c.in-Some-parts_of.other_date.now c.in-Some.date.now c.ne.result c.ne.ensures c.if-ne.false in
     let zone = same_text c.in-Some-parts_of.other_zone.now c.in-Some.zone.now c.ne-else-ne.result c.ne-else-ne.ensures c.if-ne-2.false in
-    later_time c.args.known.now c.args.time.now c.in-Some.date.now c.in-Some.known_text.now c.in-Some-parts_of.text.now c.in-Some.zone.now
+    later_time c.args.known.now c.args.time.now c.in-Some.date.now c.in-Some.field-0-1.now c.in-Some-parts_of.text.now c.in-Some.zone.now
     c.args.second c.args.clock c.in-Some-clock_of.later first.whole
     (other.whole ∙ (λ i. date i ++ (c.in-Some-parts_of.text.now ++ zone i))) first.date first.clock other.clock c.requires.clock c.requires.time
     (omega (arith, c.if-later-clock.false)) c.in-Some-clock_of.ensures (omega (arith, c.if-second-later-gt-END_SECOND.false))
