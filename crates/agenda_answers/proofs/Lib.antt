@@ -1,4 +1,5 @@
 pub mod ClearLemmas
+pub mod ExceptLemmas
 pub mod KeepingLaws
 pub mod MachineLemmas
 pub mod NextLemmas

@@ -1,6 +1,7 @@
 pub mod Answer
 pub mod Changes
 pub mod ClearLaws
+pub mod ExceptLaws
 pub mod Formats
 pub mod Host
 pub mod Machine

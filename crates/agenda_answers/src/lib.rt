@@ -22,4 +22,4 @@ pub use agenda_table::Frame;
 pub use answers::{answer, answer_arguments, unread_arguments};
 pub use host::{Host, columns_of};
 pub use jobs::keeping_going_changes_nothing;
-pub use laws::{clear_is_safe, machine_clear_is_safe};
+pub use laws::{answers_except_idle_jobs, clear_is_safe, machine_clear_is_safe};

@@ -8,4 +8,7 @@ pub mod RootLemmas
 pub mod ScriptLemmas
 pub mod ShownLemmas
 pub mod CountLemmas
+pub mod AddedLemmas
+pub mod ActiveLemmas
+pub mod IdleNameLemmas
 pub mod IdleLaws

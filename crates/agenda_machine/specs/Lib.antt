@@ -6,5 +6,6 @@ pub mod Idle
 pub mod Loaded
 pub mod Scripts
 pub mod JobFiles
+pub mod IdleJobs
 pub mod Places
 pub mod Root

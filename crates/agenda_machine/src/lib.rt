@@ -21,7 +21,10 @@ mod scripts;
 
 pub use job_files::{files_of_jobs, lines_are_in_names};
 pub use listing::write_sources;
-pub use loaded::{LoadedMachine, idle_jobs_of_machine_are_left_out, with_idle, with_loaded};
+pub use loaded::{
+    LoadedMachine, idle_jobs_are_excepted, idle_jobs_of_machine_are_left_out, with_idle,
+    with_loaded,
+};
 pub use monotonic::with_monotonic;
 pub use places::{located, paths_of, places_have_paths, sources_of};
 pub use reports::{Reports, is_incomplete, write_reports};

@@ -4,6 +4,7 @@ ghost use Rattle.std.specs.Prelude.{◌≡◌, ◌++◌, [], true, false, IfOk, 
 ghost use Rattle.std.specs.List.{cons_option, flat_map};
 ghost use Rattle.std.specs.Option.{option_map};
 ghost use Rattle.agenda_machine.specs.Idle.{idle_reports};
+ghost use Rattle.agenda_machine.specs.IdleJobs.{IdleJobsAreExcepted};
 ghost use Rattle.agenda_machine.specs.Loaded.{IdleJobsOfMachineAreLeftOut, idle_jobs, idle_of, kept_source, loaded_from, loaded_source, planned_sources, unloaded_from, unplanned_with_idle};
 ghost use Rattle.plan_loads.specs.Loading.{loading_of};
 
@@ -31,6 +32,18 @@ pub struct LoadedMachine {
 /// The function does nothing: its contract is the law.
 pub fn idle_jobs_of_machine_are_left_out()
     ensures { IdleJobsOfMachineAreLeftOut }
+{}
+
+/// States the law of answers without idle jobs: the jobs of a plan without idle jobs are those of a plan with them, in the same
+/// order, but for the jobs with the names of idle ones. So an answer without `--idle` is that with `--idle`, and with `--except`
+/// for each idle job.
+///
+/// No job may have the name of another, and there may be at most 1,000 jobs with the idle ones: else an idle job may take the
+/// place of another one. `check` and each answer report both as errors.
+///
+/// The function does nothing: its contract is the law.
+pub fn idle_jobs_are_excepted()
+    ensures { IdleJobsAreExcepted }
 {}
 
 // What the daemons of a machine load of its sources, as a plan reads it.
