@@ -153,42 +153,42 @@ read_same false true bytes text is = cc
 read_same false false bytes text is = absurd cc
 
 -- what is known after a crontab without its idle jobs
-abbrev KeptCrontab : KnownJobs → Held → (label : List ℕ) → Kind → (bytes : List ℕ) → TextReading (List ℕ) → Type 0
-KeptCrontab known held label kind bytes read =
-    Fits known.others known.jobs (active (crontab_adds held label kind bytes read)) →
-    after_crontab (with_jobs known true) label kind (text_reading (active_crontab held kind bytes read).text)
-    ≡ with_jobs (plus known (active (crontab_adds held label kind bytes read))) true
+abbrev KeptCrontab : KnownJobs → Held → (owner label : List ℕ) → Kind → (bytes : List ℕ) → TextReading (List ℕ) → Type 0
+KeptCrontab known held owner label kind bytes read =
+    Fits known.others known.jobs (active (crontab_adds held owner label kind bytes read)) →
+    after_crontab (with_jobs known true) label kind (text_reading (active_crontab held kind owner bytes read).text)
+    ≡ with_jobs (plus known (active (crontab_adds held owner label kind bytes read))) true
 
 text_kept :
-    (known : KnownJobs) (held : Held) (label : List ℕ) (kind : Kind) (bytes : List ℕ) → text_reading bytes ≡ Ok bytes →
-    KeptCrontab known held label kind bytes (Ok bytes)
+    (known : KnownJobs) (held : Held) (owner label : List ℕ) (kind : Kind) (bytes : List ℕ) → text_reading bytes ≡ Ok bytes →
+    KeptCrontab known held owner label kind bytes (Ok bytes)
 unfolding entries_of_lines
-text_kept known held label kind bytes is fits =
-    let kept = active_crontab held kind bytes (Ok bytes) in
+text_kept known held owner label kind bytes is fits =
+    let kept = active_crontab held kind owner bytes (Ok bytes) in
     let left = filter_map (line_entry label kind) (enumerate_from 0 (lines kept.text)) in
-    let same : adds_in (is_in kept.idle) left ≡ active (crontab_adds held label kind bytes (Ok bytes)) =
-    ap (adds_in (is_in kept.idle)) (idle_jobs_are_left_out held kind label bytes)
+    let same : adds_in (is_in kept.idle) left ≡ active (crontab_adds held owner label kind bytes (Ok bytes)) =
+    ap (adds_in (is_in kept.idle)) (idle_jobs_are_left_out held kind owner label bytes)
     ∙ left_active (is_in kept.idle) (filter_map (line_entry label kind) (enumerate_from 0 (lines bytes))) in
-    ap (after_crontab (with_jobs known true) label kind) (active_text_is_read held kind bytes bytes is)
+    ap (after_crontab (with_jobs known true) label kind) (active_text_is_read held kind owner bytes bytes is)
     ∙ lines_run known (is_in kept.idle) label kind (enumerate_from 0 (lines kept.text))
     (subst (Fits known.others known.jobs) (sym same) fits)
     ∙ ap (λ adds. with_jobs (plus known adds) true) same
 
 kept_by :
-    (known : KnownJobs) (held : Held) (label : List ℕ) (kind : Kind) (bytes : List ℕ) (read : TextReading (List ℕ)) →
-    text_reading bytes ≡ read → KeptCrontab known held label kind bytes read
-kept_by known held label kind bytes (Ok text) is =
+    (known : KnownJobs) (held : Held) (owner label : List ℕ) (kind : Kind) (bytes : List ℕ) (read : TextReading (List ℕ)) →
+    text_reading bytes ≡ read → KeptCrontab known held owner label kind bytes read
+kept_by known held owner label kind bytes (Ok text) is =
     let same = read_same (is_too_large bytes) (is_utf8 bytes) bytes text is in
-    subst (λ text. KeptCrontab known held label kind bytes (Ok text)) same
-    (text_kept known held label kind bytes (is ∙ ap Ok (sym same)))
-kept_by known held label kind bytes (Err fault) is = λ fits.
+    subst (λ text. KeptCrontab known held owner label kind bytes (Ok text)) same
+    (text_kept known held owner label kind bytes (is ∙ ap Ok (sym same)))
+kept_by known held owner label kind bytes (Err fault) is = λ fits.
     ap (after_crontab (with_jobs known true) label kind) is
     ∙ lines_run known (λ number. false) label kind [] tt
 
 kept_crontab :
-    (known : KnownJobs) (held : Held) (label : List ℕ) (kind : Kind) (bytes : List ℕ) →
-    KeptCrontab known held label kind bytes (text_reading bytes)
-kept_crontab known held label kind bytes = kept_by known held label kind bytes (text_reading bytes) refl
+    (known : KnownJobs) (held : Held) (owner label : List ℕ) (kind : Kind) (bytes : List ℕ) →
+    KeptCrontab known held owner label kind bytes (text_reading bytes)
+kept_crontab known held owner label kind bytes = kept_by known held owner label kind bytes (text_reading bytes) refl
 
 -- ---- a file without its idle jobs
 
@@ -205,12 +205,12 @@ all_active context name (Err fault) = refl
 kept_text_run :
     (known : KnownJobs) (context : TimerContext) (held : Held) (kind : SourceKind) (name bytes : List ℕ) →
     Fits known.others known.jobs (active (text_adds context held kind name bytes)) →
-    after_text context (with_jobs known true) kind name (kept_text held false kind bytes).text
+    after_text context (with_jobs known true) kind name (kept_text held false kind name bytes).text
     ≡ with_jobs (plus known (active (text_adds context held kind name bytes))) true
-kept_text_run known context held Crontab name bytes fits = kept_crontab known held (codes "cron") whose.User bytes fits
-kept_text_run known context held System name bytes fits = kept_crontab known held (codes "system") whose.System bytes fits
-kept_text_run known context held CronD name bytes fits = kept_crontab known held name whose.System bytes fits
-kept_text_run known context held Spool name bytes fits = kept_crontab known held name whose.User bytes fits
+kept_text_run known context held Crontab name bytes fits = kept_crontab known held name (codes "cron") whose.User bytes fits
+kept_text_run known context held System name bytes fits = kept_crontab known held name (codes "system") whose.System bytes fits
+kept_text_run known context held CronD name bytes fits = kept_crontab known held name name whose.System bytes fits
+kept_text_run known context held Spool name bytes fits = kept_crontab known held name name whose.User bytes fits
 kept_text_run known context held Timer name bytes fits =
     let same = all_active context name (timer_lines bytes) in
     text_run known context held Timer name bytes (subst (Fits known.others known.jobs) same fits)
@@ -219,11 +219,11 @@ kept_text_run known context held Timer name bytes fits =
 kept_file_by :
     (good : Bool) (known : KnownJobs) (context : TimerContext) (held : Held) (kind : SourceKind) (name bytes : List ℕ) →
     Fits known.others known.jobs (active (cond good (text_adds context held kind name bytes) [])) →
-    after_text context (with_jobs known good) kind name (kept_text held false kind bytes).text
+    after_text context (with_jobs known good) kind name (kept_text held false kind name bytes).text
     ≡ with_jobs (plus known (active (cond good (text_adds context held kind name bytes) []))) good
 kept_file_by true known context held kind name bytes fits = kept_text_run known context held kind name bytes fits
 kept_file_by false known context held kind name bytes fits =
-    text_same known context kind name (kept_text held false kind bytes).text
+    text_same known context kind name (kept_text held false kind name bytes).text
     ∙ ap (λ (k : KnownJobs). with_jobs k false) (plus_none known)
 
 pub kept_run :

@@ -244,31 +244,31 @@ lines_same known label kind (line ∷ more) =
 abbrev pub is_in : List IdleJob → ℕ → Bool
 is_in idle number = list_any (λ job. job.line == number) idle
 
-abbrev pub crontab_adds : Held → (label : List ℕ) → Kind → (bytes : List ℕ) → TextReading (List ℕ) → List Add
-crontab_adds held label kind bytes (Ok text) =
-    adds_in (is_in (active_crontab held kind bytes (Ok text)).idle) (entries_of_lines label kind (lines text))
-crontab_adds held label kind bytes (Err fault) = []
+abbrev pub crontab_adds : Held → (owner label : List ℕ) → Kind → (bytes : List ℕ) → TextReading (List ℕ) → List Add
+crontab_adds held owner label kind bytes (Ok text) =
+    adds_in (is_in (active_crontab held kind owner bytes (Ok text)).idle) (entries_of_lines label kind (lines text))
+crontab_adds held owner label kind bytes (Err fault) = []
 
 crontab_run :
-    (known : KnownJobs) (held : Held) (label : List ℕ) (kind : Kind) (bytes : List ℕ) (read : TextReading (List ℕ)) →
-    FitsIn known (crontab_adds held label kind bytes read) →
-    after_crontab (with_jobs known true) label kind read ≡ with_jobs (plus known (crontab_adds held label kind bytes read)) true
+    (known : KnownJobs) (held : Held) (owner label : List ℕ) (kind : Kind) (bytes : List ℕ) (read : TextReading (List ℕ)) →
+    FitsIn known (crontab_adds held owner label kind bytes read) →
+    after_crontab (with_jobs known true) label kind read ≡ with_jobs (plus known (crontab_adds held owner label kind bytes read)) true
 unfolding entries_of_lines
-crontab_run known held label kind bytes (Ok text) fits =
-    lines_run known (is_in (active_crontab held kind bytes (Ok text)).idle) label kind (enumerate_from 0 (lines text)) fits
-crontab_run known held label kind bytes (Err fault) fits = ap (λ (k : KnownJobs). with_jobs k true) (plus_none known)
+crontab_run known held owner label kind bytes (Ok text) fits =
+    lines_run known (is_in (active_crontab held kind owner bytes (Ok text)).idle) label kind (enumerate_from 0 (lines text)) fits
+crontab_run known held owner label kind bytes (Err fault) fits = ap (λ (k : KnownJobs). with_jobs k true) (plus_none known)
 
 crontab_fits :
-    (known : KnownJobs) (held : Held) (label : List ℕ) (kind : Kind) (bytes : List ℕ) (read : TextReading (List ℕ)) →
+    (known : KnownJobs) (held : Held) (owner label : List ℕ) (kind : Kind) (bytes : List ℕ) (read : TextReading (List ℕ)) →
     known.told ≡ false → has_unadded (crontab_findings (with_jobs known true) label kind read) ≡ false →
-    FitsIn known (crontab_adds held label kind bytes read)
+    FitsIn known (crontab_adds held owner label kind bytes read)
 unfolding entries_of_lines
-crontab_fits known held label kind bytes (Ok text) untold none =
+crontab_fits known held owner label kind bytes (Ok text) untold none =
     let beyond = first_beyond (lines text) in
     let ls = enumerate_from 0 (lines text) in
-    lines_fit known (is_in (active_crontab held kind bytes (Ok text)).idle) label kind beyond ls untold
+    lines_fit known (is_in (active_crontab held kind owner bytes (Ok text)).idle) label kind beyond ls untold
     (parts (lines_findings (with_jobs known true) label kind beyond ls) (end_warnings known.clock text) none).0
-crontab_fits known held label kind bytes (Err fault) untold none = tt
+crontab_fits known held owner label kind bytes (Err fault) untold none = tt
 
 crontab_same :
     (known : KnownJobs) (label : List ℕ) (kind : Kind) (read : TextReading (List ℕ)) →
@@ -338,20 +338,20 @@ timer_same known context name (Err fault) = refl
 -- ---- a file
 
 abbrev pub text_adds : TimerContext → Held → SourceKind → (name bytes : List ℕ) → List Add
-text_adds context held Crontab name bytes = crontab_adds held (codes "cron") whose.User bytes (text_reading bytes)
-text_adds context held System name bytes = crontab_adds held (codes "system") whose.System bytes (text_reading bytes)
-text_adds context held CronD name bytes = crontab_adds held name whose.System bytes (text_reading bytes)
-text_adds context held Spool name bytes = crontab_adds held name whose.User bytes (text_reading bytes)
+text_adds context held Crontab name bytes = crontab_adds held name (codes "cron") whose.User bytes (text_reading bytes)
+text_adds context held System name bytes = crontab_adds held name (codes "system") whose.System bytes (text_reading bytes)
+text_adds context held CronD name bytes = crontab_adds held name name whose.System bytes (text_reading bytes)
+text_adds context held Spool name bytes = crontab_adds held name name whose.User bytes (text_reading bytes)
 text_adds context held Timer name bytes = timer_adds context name (timer_lines bytes)
 
 pub text_run :
     (known : KnownJobs) (context : TimerContext) (held : Held) (kind : SourceKind) (name bytes : List ℕ) →
     FitsIn known (text_adds context held kind name bytes) →
     after_text context (with_jobs known true) kind name bytes ≡ with_jobs (plus known (text_adds context held kind name bytes)) true
-text_run known context held Crontab name bytes fits = crontab_run known held (codes "cron") whose.User bytes (text_reading bytes) fits
-text_run known context held System name bytes fits = crontab_run known held (codes "system") whose.System bytes (text_reading bytes) fits
-text_run known context held CronD name bytes fits = crontab_run known held name whose.System bytes (text_reading bytes) fits
-text_run known context held Spool name bytes fits = crontab_run known held name whose.User bytes (text_reading bytes) fits
+text_run known context held Crontab name bytes fits = crontab_run known held name (codes "cron") whose.User bytes (text_reading bytes) fits
+text_run known context held System name bytes fits = crontab_run known held name (codes "system") whose.System bytes (text_reading bytes) fits
+text_run known context held CronD name bytes fits = crontab_run known held name name whose.System bytes (text_reading bytes) fits
+text_run known context held Spool name bytes fits = crontab_run known held name name whose.User bytes (text_reading bytes) fits
 text_run known context held Timer name bytes fits = timer_run known context name (timer_lines bytes) fits
 
 text_fits :
@@ -359,13 +359,13 @@ text_fits :
     has_unadded (text_findings context (with_jobs known true) kind name bytes) ≡ false →
     FitsIn known (text_adds context held kind name bytes)
 text_fits known context held Crontab name bytes untold none =
-    crontab_fits known held (codes "cron") whose.User bytes (text_reading bytes) untold none
+    crontab_fits known held name (codes "cron") whose.User bytes (text_reading bytes) untold none
 text_fits known context held System name bytes untold none =
-    crontab_fits known held (codes "system") whose.System bytes (text_reading bytes) untold none
+    crontab_fits known held name (codes "system") whose.System bytes (text_reading bytes) untold none
 text_fits known context held CronD name bytes untold none =
-    crontab_fits known held name whose.System bytes (text_reading bytes) untold none
+    crontab_fits known held name name whose.System bytes (text_reading bytes) untold none
 text_fits known context held Spool name bytes untold none =
-    crontab_fits known held name whose.User bytes (text_reading bytes) untold none
+    crontab_fits known held name name whose.User bytes (text_reading bytes) untold none
 text_fits known context held Timer name bytes untold none = timer_fits known context name bytes (timer_lines bytes) untold none
 
 pub text_same :

@@ -37,9 +37,9 @@ of_source :
     text_reading source.bytes ≡ Ok source.bytes → HasOtherEntries held kind source label
 of_source held kind source label is_crontab is_text =
     let text = source.bytes in
-    let P : TextReading (List ℕ) → Type 0 = λ reading. HasOthers kind label text (active_crontab held kind text reading) in
-    let Q : Option Kind → Type 0 = λ whose. HasOthers kind label text (without_idle held whose text) in
-    subst Q (sym is_crontab) (subst P (sym is_text) (idle_jobs_are_left_out held kind label text))
+    let P : TextReading (List ℕ) → Type 0 = λ reading. HasOthers kind label text (active_crontab held kind source.name text reading) in
+    let Q : Option Kind → Type 0 = λ whose. HasOthers kind label text (without_idle held whose source.name text) in
+    subst Q (sym is_crontab) (subst P (sym is_text) (idle_jobs_are_left_out held kind source.name label text))
 
 pub idle_jobs_of_machine_are_left_out : IdleJobsOfMachineAreLeftOut
 idle_jobs_of_machine_are_left_out held machine = (refl, of_source held)

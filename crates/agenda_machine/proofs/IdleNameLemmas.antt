@@ -28,9 +28,9 @@ use Rattle.plan_rules.specs.Timer.{has_timer, is_timer_name}
 use Rattle.plan_rules.specs.TimerEntries.{timer_lines}
 use Rattle.plan_check.specs.Timers.{right_job}
 use Rattle.plan_runs.specs.declared.IdleJob.{IdleJob}
-use Rattle.plan_runs.specs.Commands.{steps_of}
-use Rattle.plan_runs.specs.Idle.{active_crontab, active_lines, all_active, idle_from, idle_on, idle_why, steps_why}
-use Rattle.plan_runs.specs.Settings.{Settings, first_settings, settings_after}
+use Rattle.plan_runs.specs.Commands.{job_command}
+use Rattle.plan_runs.specs.Idle.{active_crontab, active_lines, all_active, command_why, idle_from, idle_on, idle_why}
+use Rattle.plan_runs.specs.Settings.{Settings, first_settings, is_read, settings_after}
 use Rattle.plan_runs.specs.Texts.{KnownActive}
 use Rattle.plan_texts.specs.Lines.{after_blanks, lines}
 use Rattle.plan_texts.specs.Steps.{◌>>=◌}
@@ -260,19 +260,19 @@ still_makes label number (Ok None) = refl
 still_makes label number (Err cause) = refl
 
 why_makes :
-    (held : Held) (path : Option (List ℕ)) (is_read : Bool) (read : LineReading (Option JobParts)) →
-    is_some (steps_why held path (cond is_read (steps_of read) None)) ≡ true → makes_job read ≡ true
-why_makes held path true (Ok (Some job)) is = refl
-why_makes held path true (Ok None) is = absurd (true≢false (sym is))
-why_makes held path true (Err cause) is = absurd (true≢false (sym is))
-why_makes held path false read is = absurd (true≢false (sym is))
+    (held : Held) (settings : Settings) (is_read : Bool) (read : LineReading (Option JobParts)) →
+    is_some (command_why held settings (cond is_read (job_command settings.is_roots read) None)) ≡ true → makes_job read ≡ true
+why_makes held settings true (Ok (Some job)) is = refl
+why_makes held settings true (Ok None) is = absurd (true≢false (sym is))
+why_makes held settings true (Err cause) is = absurd (true≢false (sym is))
+why_makes held settings false read is = absurd (true≢false (sym is))
 
 idle_line :
     (held : Held) (kind : Kind) (settings : Settings) (label : List ℕ) (number : ℕ) (line : List ℕ) →
     is_some (idle_why held kind settings number line) ≡ true → makes_job (line_reading label kind number line) ≡ true
 idle_line held kind settings label number line is =
     ap makes_job (line_relabelled label kind number line) ∙ still_makes label number (line_reading [] kind number line)
-    ∙ why_makes held settings.path settings.is_read (line_reading [] kind number line) is
+    ∙ why_makes held settings (is_read settings) (line_reading [] kind number line) is
 
 or_either : (here rest more : Bool) → (rest ≡ true → more ≡ true) → (here || rest) ≡ true → ((here && true) || more) ≡ true
 or_either true rest more later is = refl
@@ -428,16 +428,16 @@ idle_of_lines true bytes known number is = absurd (true≢false (sym is))
 idle_of_lines false bytes known number is = is
 
 crontab_names :
-    (held : Held) (label : List ℕ) (kind : Kind) (bytes : List ℕ) (read : TextReading (List ℕ)) (name : List ℕ) →
-    is_among name (idle_labels label (active_crontab held kind bytes read).idle)
-    ≡ is_among name (idle_in (crontab_adds held label kind bytes read))
+    (held : Held) (owner label : List ℕ) (kind : Kind) (bytes : List ℕ) (read : TextReading (List ℕ)) (name : List ℕ) →
+    is_among name (idle_labels label (active_crontab held kind owner bytes read).idle)
+    ≡ is_among name (idle_in (crontab_adds held owner label kind bytes read))
 unfolding entries_of_lines
-crontab_names held label kind bytes (Ok text) name =
-    labels_are label name (active_crontab held kind bytes (Ok text)).idle
+crontab_names held owner label kind bytes (Ok text) name =
+    labels_are label name (active_crontab held kind owner bytes (Ok text)).idle
     (filter_map (line_entry label kind) (enumerate_from 0 (lines text))) (lines_named label kind 0 (lines text))
-    (λ number is. idle_makes held kind first_settings label 0 number (lines text)
-    (idle_of_lines (length (active_lines held kind (lines text)).idle == 0) bytes (active_lines held kind (lines text)) number is))
-crontab_names held label kind bytes (Err fault) name = refl
+    (λ number is. idle_makes held kind (first_settings owner) label 0 number (lines text)
+    (idle_of_lines (length (active_lines held kind owner (lines text)).idle == 0) bytes (active_lines held kind owner (lines text)) number is))
+crontab_names held owner label kind bytes (Err fault) name = refl
 
 none_of : (is : Bool) (job : JobParts) (other name : List ℕ) →
     is_among name (idle_in (cond is (makes false job ∷ []) (bars other ∷ []))) ≡ false
@@ -452,12 +452,12 @@ timer_names context timer (Err fault) name = refl
 
 text_names :
     (context : TimerContext) (held : Held) (kind : SourceKind) (file bytes name : List ℕ) →
-    is_among name (idle_labels (label_of kind file) (kept_text held false kind bytes).idle)
+    is_among name (idle_labels (label_of kind file) (kept_text held false kind file bytes).idle)
     ≡ is_among name (idle_in (text_adds context held kind file bytes))
-text_names context held Crontab file bytes name = crontab_names held (codes "cron") whose.User bytes (text_reading bytes) name
-text_names context held System file bytes name = crontab_names held (codes "system") whose.System bytes (text_reading bytes) name
-text_names context held CronD file bytes name = crontab_names held file whose.System bytes (text_reading bytes) name
-text_names context held Spool file bytes name = crontab_names held file whose.User bytes (text_reading bytes) name
+text_names context held Crontab file bytes name = crontab_names held file (codes "cron") whose.User bytes (text_reading bytes) name
+text_names context held System file bytes name = crontab_names held file (codes "system") whose.System bytes (text_reading bytes) name
+text_names context held CronD file bytes name = crontab_names held file file whose.System bytes (text_reading bytes) name
+text_names context held Spool file bytes name = crontab_names held file file whose.User bytes (text_reading bytes) name
 text_names context held Timer file bytes name = sym (timer_names context file (timer_lines bytes) name)
 
 source_names :

@@ -30,13 +30,14 @@ whose_idle true kind = None
 whose_idle false kind = whose_crontab kind
 
 -- a text without the idle jobs of this crontab, and these jobs
-abbrev pub without_idle : Held → Option Kind → (text : List ℕ) → KnownActive
-without_idle held None text = record { text = text; idle = [] }
-without_idle held (Some kind) text = active_crontab held kind text (text_reading text)
+abbrev pub without_idle : Held → Option Kind → (owner text : List ℕ) → KnownActive
+without_idle held None owner text = record { text = text; idle = [] }
+without_idle held (Some kind) owner text = active_crontab held kind owner text (text_reading text)
 
--- what a plan reads of a text that is loaded of a source of this kind, and the idle jobs that it doesn't plan
-abbrev pub kept_text : Held → (idle : Bool) → SourceKind → (text : List ℕ) → KnownActive
-kept_text held idle kind text = without_idle held (whose_idle idle kind) text
+-- what a plan reads of a text that is loaded of a source of this kind and name, and the idle jobs that it doesn't plan; a user's crontab
+-- has the user's name
+abbrev pub kept_text : Held → (idle : Bool) → SourceKind → (name text : List ℕ) → KnownActive
+kept_text held idle kind name text = without_idle held (whose_idle idle kind) name text
 
 -- a job that isn't planned since it is idle, in the file with this path
 abbrev pub idle_report : (path : List ℕ) → IdleJob → NotPlanned
@@ -49,4 +50,4 @@ path_of source = path_of_first (slice_get (files_of source.parts) 0)
 -- the idle jobs that aren't planned of a source of which this text is loaded, if anything is
 abbrev pub idle_reports : Held → (idle : Bool) → SourceParts → (text : Option (List ℕ)) → List NotPlanned
 idle_reports held idle source None = []
-idle_reports held idle source (Some text) = map (idle_report (path_of source)) (kept_text held idle source.kind text).idle
+idle_reports held idle source (Some text) = map (idle_report (path_of source)) (kept_text held idle source.kind source.name text).idle

@@ -22,7 +22,7 @@ use Rattle.plan_tree.specs.Tree.{Held}
 abbrev pub idle_names_if : (good : Bool) → Held → Source → List (List ℕ)
 idle_names_if false held source = []
 idle_names_if true held source =
-    map (λ job. job_name (label_of source.kind source.name) job.line) (kept_text held false source.kind source.bytes).idle
+    map (λ job. job_name (label_of source.kind source.name) job.line) (kept_text held false source.kind source.name source.bytes).idle
 
 -- the names of the idle jobs of sources, each from its label and its line
 abbrev pub idle_names : Held → List Source → List (List ℕ)

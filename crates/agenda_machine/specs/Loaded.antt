@@ -51,7 +51,7 @@ unplanned_jobs machine =
 
 -- a source that is loaded, without its idle jobs, unless these are planned
 abbrev pub kept_source : Held → (idle : Bool) → Source → Source
-kept_source held idle source = record source { bytes = (kept_text held idle source.kind source.bytes).text }
+kept_source held idle source = record source { bytes = (kept_text held idle source.kind source.name source.bytes).text }
 
 -- the sources of a machine as a plan reads them
 abbrev pub planned_sources : Held → (idle : Bool) → Machine → List Source
@@ -78,7 +78,7 @@ unplanned_with_idle held false machine = unplanned_jobs machine ++ idle_jobs hel
 abbrev pub HasOtherEntries : Held → Kind → Source → (label : List ℕ) → Type 0
 HasOtherEntries held kind source label =
     entries_of_lines label kind (lines (kept_source held false source).bytes)
-    ≡ filter (λ entry. is_active (kept_text held false source.kind source.bytes).idle entry) (entries_of_lines label kind (lines source.bytes))
+    ≡ filter (λ entry. is_active (kept_text held false source.kind source.name source.bytes).idle entry) (entries_of_lines label kind (lines source.bytes))
 
 -- a plan reads the same sources, in the same order, with and without idle jobs, and without them each crontab has exactly the entries of
 -- the other jobs

@@ -17,13 +17,13 @@ pub record SourceScripts : Type 0 where
   pub lines : List LineScripts
 
 -- the lines of a crontab's text that run scripts; a timer has none
-abbrev pub script_lines : Held → Option Kind → (text : List ℕ) → List LineScripts
-script_lines held None text = []
-script_lines held (Some kind) text = scripts_of_lines held kind (text_reading text)
+abbrev pub script_lines : Held → Option Kind → (owner text : List ℕ) → List LineScripts
+script_lines held None owner text = []
+script_lines held (Some kind) owner text = scripts_of_lines held kind owner (text_reading text)
 
 abbrev pub with_scripts : Held → SourceParts → SourceScripts
 with_scripts held source =
-    record { source = source; lines = script_lines held (whose_crontab source.kind) (text_of source.parts) }
+    record { source = source; lines = script_lines held (whose_crontab source.kind) source.name (text_of source.parts) }
 
 -- the scripts of the line with this number in decimal, among the lines that run scripts
 abbrev pub scripts_at : List LineScripts → (line : List ℕ) → List (List ℕ)

@@ -30,10 +30,10 @@ pub(crate) fn kept_of<T: Tree>(
     text: Vec<u8>,
 ) -> Result<Kept, AllocError>
     ensures text { T.is_known ≡ true → IfOk result (λ kept.
-        kept.text.items ≡ (kept_text (T.held tree.now) idle source.now.kind text.items).text) }
+        kept.text.items ≡ (kept_text (T.held tree.now) idle source.now.kind source.now.name text.items).text) }
     ensures reports { T.is_known ≡ true → IfOk result (λ kept.
         kept.reports.items
-        ≡ map (idle_report (path_of source.now)) (kept_text (T.held tree.now) idle source.now.kind text.items).idle) }
+        ≡ map (idle_report (path_of source.now)) (kept_text (T.held tree.now) idle source.now.kind source.now.name text.items).idle) }
 {
     match whose_idle(idle, source.kind()) {
         None => Ok(Kept {
@@ -71,12 +71,12 @@ fn without_idle<T: Tree>(
     text: &[u8],
 ) -> Result<Kept, AllocError>
     ensures text { T.is_known ≡ true → IfOk result (λ kept.
-        kept.text.items ≡ (active_crontab (T.held tree.now) kind text.now (text_reading text.now)).text) }
+        kept.text.items ≡ (active_crontab (T.held tree.now) kind source.now.name text.now (text_reading text.now)).text) }
     ensures reports { T.is_known ≡ true → IfOk result (λ kept.
         kept.reports.items
-        ≡ map (idle_report (path_of source.now)) (active_crontab (T.held tree.now) kind text.now (text_reading text.now)).idle) }
+        ≡ map (idle_report (path_of source.now)) (active_crontab (T.held tree.now) kind source.now.name text.now (text_reading text.now)).idle) }
 {
-    let ActiveCrontab { text, idle } = active_crontab(alloc, tree, kind, text)?;
+    let ActiveCrontab { text, idle } = active_crontab(alloc, tree, kind, source.name(), text)?;
     let reports = reports_of(alloc, path_of(source), idle)?;
     Ok(Kept { text, reports })
 }

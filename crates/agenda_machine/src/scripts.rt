@@ -60,6 +60,7 @@ fn with_scripts<'a, T: Tree>(
         alloc,
         tree,
         whose_crontab(source.kind()),
+        source.name(),
         source.parts().text(),
     )?;
     Ok(ScriptedSource { source, lines })
@@ -70,13 +71,15 @@ fn script_lines<T: Tree>(
     alloc: Global,
     tree: &T,
     kind: Option<Kind>,
+    owner: &str,
     text: &[u8],
 ) -> Result<Vec<LineScripts>, AllocError>
-    ensures { T.is_known ≡ true → IfOk result (λ lines. lines.items ≡ script_lines (T.held tree.now) kind text.now) }
+    ensures { T.is_known ≡ true → IfOk result (λ lines.
+        lines.items ≡ script_lines (T.held tree.now) kind owner.now text.now) }
 {
     match kind {
         None => Ok(Vec::new(alloc)),
-        Some(kind) => scripts_of_lines(alloc, tree, kind, text),
+        Some(kind) => scripts_of_lines(alloc, tree, kind, owner, text),
     }
 }
 

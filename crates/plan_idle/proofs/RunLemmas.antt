@@ -1,5 +1,5 @@
 -- What a command runs is among what it may run.
-use Rattle.std.proofs.Common.{◌≡◌, ℕ, ◌+◌, Bool, true, false, not, ◌||◌, if◌then◌else◌, List, [], ◌∷◌, map, None, refl, sym, subst, ap, ◌∙◌}
+use Rattle.std.proofs.Common.{◌≡◌, ℕ, ◌+◌, Bool, true, false, not, ◌||◌, if◌then◌else◌, List, [], ◌∷◌, map, None, refl, sym, subst, ap, ◌∙◌, true≢false}
 use Rattle.plan_shell.specs.declared.step.Step.{Step}
 use Rattle.plan_shell.specs.declared.step.Step.TheVariants as step
 use Rattle.plan_shell.specs.Tree.{Shell, Look, Known, Effect, Not, Both, And, Or, If, with_step, with_steps, top, tree_of}
@@ -114,47 +114,75 @@ if_covered_at false a b c acts s u first second third =
       | false ↦ both_covered a c (ran false acts) u first third
     ])
 
-known_covered : (property : Property) (subject : List ℕ) (answer : Answer) (value : Bool)
-    → Covers (looked_at property subject answer) (run_look answer value)
-known_covered property subject Yes value = record { true_part = λ h. refl; false_part = λ h. cc; acts = λ h. cc }
-known_covered property subject No value = record { true_part = λ h. cc; false_part = λ h. refl; acts = λ h. cc }
-known_covered property subject Unknown value = record { true_part = λ h. refl; false_part = λ h. refl; acts = λ h. cc }
-known_covered property subject Acts value = record { true_part = λ h. refl; false_part = λ h. refl; acts = λ h. refl }
+-- a value that is known is the one that is found, and nothing acts
+abbrev pub fits : (known found : Answer) → Bool
+fits Yes Yes = true
+fits No No = true
+fits Unknown Yes = true
+fits Unknown No = true
+fits Unknown Unknown = true
+fits known found = false
+
+-- what may act may be anything
+abbrev pub may_find : (known found : Answer) → Bool
+may_find Acts found = true
+may_find known found = fits known found
+
+known_covered : (property : Property) (subject : List ℕ) (answer found : Answer) (value : Bool) → may_find answer found ≡ true
+    → Covers (looked_at property subject answer) (run_look found value)
+known_covered property subject Yes Yes value is = record { true_part = λ h. refl; false_part = λ h. cc; acts = λ h. cc }
+known_covered property subject No No value is = record { true_part = λ h. cc; false_part = λ h. refl; acts = λ h. cc }
+known_covered property subject Unknown Yes value is = record { true_part = λ h. refl; false_part = λ h. refl; acts = λ h. cc }
+known_covered property subject Unknown No value is = record { true_part = λ h. refl; false_part = λ h. refl; acts = λ h. cc }
+known_covered property subject Unknown Unknown value is = record { true_part = λ h. refl; false_part = λ h. refl; acts = λ h. cc }
+known_covered property subject Acts found value is = record { true_part = λ h. refl; false_part = λ h. refl; acts = λ h. refl }
+known_covered property subject answer found value is = absurd (true≢false (sym is))
 
 constant_covered : (value : Bool) → Covers (known value None) (ran value false)
 constant_covered true = record { true_part = λ h. refl; false_part = λ h. cc; acts = λ h. cc }
 constant_covered false = record { true_part = λ h. cc; false_part = λ h. refl; acts = λ h. cc }
 
--- what a command runs is among what it may run, whatever the values are that aren't known
-pub covered : (looks : Looks) (values : ℕ → Bool) (n : ℕ) (tree : Shell) → Covers (outcomes looks tree) (run looks values n tree)
-covered looks values n (Look property subject) = known_covered property subject (looks property subject) (values n)
-covered looks values n (Known value) = constant_covered value
-covered looks values n Effect = record { true_part = λ h. refl; false_part = λ h. refl; acts = λ h. refl }
-covered looks values n (Not a) =
-    not_covered_at (run looks values n a).value (outcomes looks a) (run looks values n a).acts (covered looks values n a)
-covered looks values n (Both a b) =
-    both_covered (outcomes looks a) (outcomes looks b) (run looks values n a) (run looks values (n + size a) b)
-    (covered looks values n a) (covered looks values (n + size a) b)
-covered looks values n (And a b) =
-    and_covered_at (run looks values n a).value (outcomes looks a) (outcomes looks b) (run looks values n a).acts (run looks values (n + size a) b)
-    (covered looks values n a) (covered looks values (n + size a) b)
-covered looks values n (Or a b) =
-    or_covered_at (run looks values n a).value (outcomes looks a) (outcomes looks b) (run looks values n a).acts (run looks values (n + size a) b)
-    (covered looks values n a) (covered looks values (n + size a) b)
-covered looks values n (If a b c) =
-    if_covered_at (run looks values n a).value (outcomes looks a) (outcomes looks b) (outcomes looks c) (run looks values n a).acts
-    (run looks values (n + size a) b) (run looks values (n + (size a + size b)) c)
-    (covered looks values n a) (covered looks values (n + size a) b) (covered looks values (n + (size a + size b)) c)
+-- what a command runs is among what it may run, whatever the values are that aren't known, if it finds what is known
+pub covered : (looks found : Looks) → ((property : Property) (subject : List ℕ) → may_find (looks property subject) (found property subject) ≡ true)
+    → (values : ℕ → Bool) (n : ℕ) (tree : Shell) → Covers (outcomes looks tree) (run found values n tree)
+covered looks found fit values n (Look property subject) = known_covered property subject (looks property subject) (found property subject) (values n) (fit property subject)
+covered looks found fit values n (Known value) = constant_covered value
+covered looks found fit values n Effect = record { true_part = λ h. refl; false_part = λ h. refl; acts = λ h. refl }
+covered looks found fit values n (Not a) =
+    not_covered_at (run found values n a).value (outcomes looks a) (run found values n a).acts (covered looks found fit values n a)
+covered looks found fit values n (Both a b) =
+    both_covered (outcomes looks a) (outcomes looks b) (run found values n a) (run found values (n + size a) b)
+    (covered looks found fit values n a) (covered looks found fit values (n + size a) b)
+covered looks found fit values n (And a b) =
+    and_covered_at (run found values n a).value (outcomes looks a) (outcomes looks b) (run found values n a).acts (run found values (n + size a) b)
+    (covered looks found fit values n a) (covered looks found fit values (n + size a) b)
+covered looks found fit values n (Or a b) =
+    or_covered_at (run found values n a).value (outcomes looks a) (outcomes looks b) (run found values n a).acts (run found values (n + size a) b)
+    (covered looks found fit values n a) (covered looks found fit values (n + size a) b)
+covered looks found fit values n (If a b c) =
+    if_covered_at (run found values n a).value (outcomes looks a) (outcomes looks b) (outcomes looks c) (run found values n a).acts
+    (run found values (n + size a) b) (run found values (n + (size a + size b)) c)
+    (covered looks found fit values n a) (covered looks found fit values (n + size a) b) (covered looks found fit values (n + (size a + size b)) c)
 
 stays : (acts : Bool) (may : Bool) → (acts ≡ true → may ≡ true) → may ≡ false → acts ≡ false
 stays true may among never = absurd (let h : true ≡ false = sym (among refl) ∙ never in cc)
 stays false may among never = refl
 
--- a command that may run nothing runs nothing
+-- a command that may run nothing runs nothing, if it finds what is known
+pub idle_runs_none : (looks found : Looks) → ((property : Property) (subject : List ℕ) → may_find (looks property subject) (found property subject) ≡ true)
+    → (values : ℕ → Bool) (tree : Shell) → (outcomes looks tree).may_act ≡ false → (run found values 0 tree).acts ≡ false
+idle_runs_none looks found fit values tree never =
+    stays (run found values 0 tree).acts (outcomes looks tree).may_act (covered looks found fit values 0 tree).acts never
+
+pub self_found : (answer : Answer) → may_find answer answer ≡ true
+self_found Yes = refl
+self_found No = refl
+self_found Unknown = refl
+self_found Acts = refl
+
 pub idle_runs_nothing : (looks : Looks) (values : ℕ → Bool) (tree : Shell) → (outcomes looks tree).may_act ≡ false
     → (run looks values 0 tree).acts ≡ false
-idle_runs_nothing looks values tree never =
-    stays (run looks values 0 tree).acts (outcomes looks tree).may_act (covered looks values 0 tree).acts never
+idle_runs_nothing looks = idle_runs_none looks looks (λ property subject. self_found (looks property subject))
 
 -- ---- the steps of a command
 

@@ -1,7 +1,7 @@
 -- What a command finds where it looks in a tree (test(1), sh(1)).
 use Rattle.std.specs.Prelude.{ℕ, Bool, true, false, not, ◌&&◌, ◌||◌, ◌==◌, nat_eq, if◌then◌else◌, bit_and, List, [], ◌∷◌, ◌++◌, length, filter, codes, Option, Some, None}
 use Rattle.std.specs.Char.{is_ascii_alphanumeric}
-use Rattle.std.specs.List.{ends_with, list_all, slice_split}
+use Rattle.std.specs.List.{ends_with, list_all, list_any, slice_split}
 use Rattle.std.specs.Str.{byte, bytes_eq}
 use Rattle.plan_texts.specs.Text.{begins_with}
 use Rattle.plan_tree.specs.declared.links.End.{End}
@@ -17,6 +17,7 @@ use Rattle.plan_shell.specs.declared.step.Property.{Property}
 use Rattle.plan_shell.specs.declared.step.Property.TheVariants as property
 use Rattle.plan_idle.specs.declared.answer.Answer.{Answer}
 use Rattle.plan_idle.specs.declared.answer.Answer.TheVariants.{Yes, No, Unknown, Acts}
+use Rattle.plan_idle.specs.Known.{Places, known_in, lead_of}
 use Rattle.plan_idle.specs.Run.{Looks}
 
 -- ---- files
@@ -64,11 +65,7 @@ node_answer property.Executable node status = executable_answer node status
 node_answer property.Command node status = Unknown
 node_answer property.NoScripts node status = Acts
 
--- what is at a path without links; the root is a directory
-abbrev pub node_at : Held → List ℕ → Node
-node_at held place = if length place == 0 then node.Directory else held.node place
-
--- the directory that shows that systemd runs (sd_booted(3))
+-- where systemd is the init, which sbin/init says, run/systemd/system is a directory while the machine runs (sd_booted(3))
 abbrev pub booted_path : List ℕ
 booted_path = codes "/run/systemd/system"
 
@@ -82,30 +79,30 @@ init_answer (end.Found place) = answer_of (is_systemd place)
 init_answer end.Nothing = No
 init_answer end.Unknown = Unknown
 
--- where sbin/init leads
-unfoldable pub init_end : Held → End
-init_end held = end_of held.node (codes "sbin/init")
-
 -- a directory, if something is so
 abbrev pub directory_if : Property → Answer → Answer
 directory_if property Yes = node_answer property node.Directory None
 directory_if property answer = answer
 
--- what leads nowhere has no property; but where systemd is the init, its directory is there while the machine runs (agenda)
-abbrev pub missing_by : (init : Answer) → Property → List ℕ → Answer
-missing_by init property path = if bytes_eq path booted_path then directory_if property init else No
-
-abbrev pub missing_answer : Held → Property → List ℕ → Answer
-missing_answer held property path = missing_by (init_answer (init_end held)) property path
-
-abbrev pub end_answer : Held → Property → List ℕ → End → Answer
-end_answer held property path (end.Found place) = node_answer property (node_at held place) (held.status place)
-end_answer held property path end.Nothing = missing_answer held property path
-end_answer held property path end.Unknown = Unknown
+-- what leads nowhere has no property; of the root nothing is said (agenda)
+abbrev pub end_answer : Held → Property → End → Answer
+end_answer held property (end.Found place) =
+    if length place == 0 then Unknown else node_answer property (held.node place) (held.status place)
+end_answer held property end.Nothing = No
+end_answer held property end.Unknown = Unknown
 
 -- whether what a path leads to has a property
 abbrev pub path_answer : Held → Property → List ℕ → Answer
-path_answer held property path = end_answer held property path (end_of held.node path)
+path_answer held property path = end_answer held property (end_of held.node path)
+
+abbrev pub booted_by : Held → Property → End → Answer
+booted_by held property (end.Found place) = end_answer held property (end.Found place)
+booted_by held property end.Nothing = directory_if property (init_answer (lead_of held.node (codes "sbin/init")))
+booted_by held property end.Unknown = Unknown
+
+-- whether run/systemd/system has a property
+abbrev pub booted_answer : Held → Property → Answer
+booted_answer held property = booted_by held property (lead_of held.node booted_path)
 
 -- ---- commands
 
@@ -136,17 +133,37 @@ abbrev pub answer_among : Held → (name : List ℕ) → Answer → (dirs : List
 answer_among held name found [] = found
 answer_among held name found (dir ∷ dirs) = answer_among held name (or_answer found (answer_in held name dir)) dirs
 
--- the PATH of cron(8), where a crontab doesn't set it
-abbrev pub default_path : List ℕ
-default_path = codes "/usr/local/sbin:/usr/local/bin:/sbin:/bin:/usr/sbin:/usr/bin"
-
-abbrev pub path_or_default : Option (List ℕ) → List ℕ
-path_or_default None = default_path
-path_or_default (Some path) = path
-
 -- the directories of PATH
 abbrev pub dirs_of : List ℕ → List (List ℕ)
 dirs_of path = slice_split (λ b. b == byte ":") path
+
+-- a word is among the words of a text, with a blank between them
+unfoldable pub is_among : (words : List ℕ) → (name : List ℕ) → Bool
+is_among words name = list_any (bytes_eq name) (slice_split (λ b. b == byte " ") words)
+
+-- the reserved words and builtins that both dash(1) and bash(1) have
+abbrev pub shared_words : List ℕ
+shared_words = codes ". alias bg break case cd command continue do done echo elif else esac eval exec exit export false fg fi for getopts hash if in jobs kill local printf pwd read readonly return set shift test then times trap true type ulimit umask unalias unset until wait while"
+
+-- those of bash alone; of fc dash(1) speaks, but Debian's has it not
+abbrev pub bash_words : List ℕ
+bash_words = codes "bind builtin caller compgen complete compopt coproc declare dirs disown enable fc function help history let logout mapfile popd pushd readarray select shopt source suspend time typeset"
+
+-- those of dash alone
+abbrev pub dash_words : List ℕ
+dash_words = codes "chdir"
+
+-- whether a word names a command, by the shell itself; what one of dash and bash alone has is known of bash only (agenda)
+abbrev pub word_answer : (is_bash : Bool) → (name : List ℕ) → Answer
+word_answer is_bash name =
+    if is_among shared_words name then Yes else
+    if is_among bash_words name then (if is_bash then Yes else Unknown) else
+    if is_among dash_words name && not is_bash then Unknown else No
+
+-- whether a command has this name: in the shell, or in a directory of PATH
+abbrev pub command_by : Held → (name path : List ℕ) → Answer → Answer
+command_by held name path No = answer_among held name No (dirs_of path)
+command_by held name path answer = answer
 
 -- ---- scripts
 
@@ -180,15 +197,36 @@ abbrev pub listed_answer : Held → (dir : List ℕ) → Option (List (List ℕ)
 listed_answer held dir None = Acts
 listed_answer held dir (Some listing) = if listing.1 then no_scripts_in held dir listing.0 else Acts
 
+abbrev pub directory_scripts : Held → (dir : List ℕ) → Node → Answer
+directory_scripts held dir node.Directory = listed_answer held dir (held.names dir)
+directory_scripts held dir _ = Acts
+
 abbrev pub no_scripts_answer : Held → End → Answer
-no_scripts_answer held (end.Found dir) = listed_answer held dir (held.names dir)
+no_scripts_answer held (end.Found dir) = directory_scripts held dir (held.node dir)
 no_scripts_answer held _ = Acts
 
--- what a command finds where it looks for a property of a path or a name
-abbrev pub answer_at : Held → Option (List ℕ) → Looks
-answer_at held path property.Command name = answer_among held name No (dirs_of (path_or_default path))
-answer_at held path property.NoScripts dir = no_scripts_answer held (end_of held.node dir)
-answer_at held path property subject = path_answer held property subject
+-- ---- who looks
+
+-- a user, who is root or not; a shell, which is bash, or else dash or bash; and its PATH
+pub record Asker : Type 0 where
+  pub is_root : Bool
+  pub is_bash : Bool
+  pub path : List ℕ
+
+-- programs change the sizes of files: `-s` is known in usr alone (agenda)
+abbrev pub only_usr : Property → Bool
+only_usr property.NotEmpty = true
+only_usr _ = false
+
+-- what a command finds where it looks for a property of a path or a name, if what is at these places is known
+abbrev pub answer_at : Held → Places → Asker → Looks
+answer_at held places asker property.Command name =
+    command_by (known_in places asker.is_root false held) name asker.path (word_answer asker.is_bash name)
+answer_at held places asker property.NoScripts dir =
+    no_scripts_answer (known_in places asker.is_root false held) (end_of (known_in places asker.is_root false held).node dir)
+answer_at held places asker property subject =
+    if bytes_eq subject booted_path then booted_answer held property
+    else path_answer (known_in places asker.is_root (only_usr property) held) property subject
 
 -- ---- the scripts of a directory
 

@@ -1,11 +1,12 @@
 -- The scripts that a command may run (run-parts(8) of Debian).
-use Rattle.std.specs.Prelude.{ℕ, Bool, nat_eq, if◌then◌else◌, List, [], ◌∷◌, ◌++◌, map, flat_map, codes, Option}
+use Rattle.std.specs.Prelude.{ℕ, Bool, nat_eq, if◌then◌else◌, List, [], ◌∷◌, ◌++◌, map, flat_map, codes}
 use Rattle.std.specs.List.{ends_with}
 use Rattle.plan_shell.specs.declared.step.Property.{Property}
 use Rattle.plan_shell.specs.declared.step.Property.TheVariants as property
 use Rattle.plan_shell.specs.Tree.{Shell, Look, Known, Effect, Not, Both, And, Or, If}
 use Rattle.plan_tree.specs.Tree.{Held}
-use Rattle.plan_idle.specs.Answers.{answer_at, scripts_of}
+use Rattle.plan_idle.specs.Answers.{Asker, answer_at, scripts_of}
+use Rattle.plan_idle.specs.Known.{Places}
 use Rattle.plan_idle.specs.Outcomes.{outcomes}
 use Rattle.plan_idle.specs.Run.{Looks}
 
@@ -43,6 +44,6 @@ script_path dir name = dir ++ (slash_after dir ++ name)
 abbrev pub script_paths : Held → (dir : List ℕ) → List (List ℕ)
 script_paths held dir = map (script_path dir) (scripts_of held dir)
 
--- the paths of the scripts that a command may run. `path` is the crontab's setting of PATH
-abbrev pub scripts_run : Held → (path : Option (List ℕ)) → Shell → List (List ℕ)
-scripts_run held path tree = flat_map (script_paths held) (directories (answer_at held path) tree)
+-- the paths of the scripts that a command may run
+abbrev pub scripts_run : Held → Places → Asker → Shell → List (List ℕ)
+scripts_run held places asker tree = flat_map (script_paths held) (directories (answer_at held places asker) tree)

@@ -1,12 +1,16 @@
 //! What a command finds where it looks for a file in a tree.
 
 ghost use Rattle.std.specs.Prelude.{◌≡◌, true, IfOk};
-ghost use Rattle.plan_idle.specs.Answers.{answer_of, directory_answer, directory_if, executable_answer, file_answer, full_answer, init_answer, init_end, is_systemd, missing_answer, missing_by, mode_answer, node_answer, node_at, path_answer, program_answer};
+ghost use Rattle.plan_idle.specs.Answers.{answer_of, booted_answer, directory_answer, directory_if, end_answer, executable_answer, file_answer, full_answer, init_answer, is_systemd, mode_answer, node_answer, path_answer, program_answer};
 
 use crate::answer::Answer;
+use crate::known::lead_of;
 use plan_shell::Property;
 use plan_tree::{End, Node, Status, Tree, follow};
 use std::alloc::{AllocError, Global};
+
+/// The path of the directory that shows that systemd runs (sd_booted(3)).
+pub(crate) const BOOTED_PATH: &str = "/run/systemd/system";
 
 // The execute bits of a mode: those of its owner, its group and others (inode(7)).
 const EXECUTE: u32 = 0o111;
@@ -42,9 +46,22 @@ pub(crate) fn path_answer<T: Tree>(
 ) -> Result<Answer, AllocError>
     ensures { T.is_known ≡ true → IfOk result (λ answer. answer ≡ path_answer (T.held tree.now) property path.now) }
 {
-    match follow(alloc, tree, path)? {
+    let end = follow(alloc, tree, path)?;
+    end_answer(alloc, tree, property, end)
+}
+
+// Returns whether what is at the end of a path's links has a property.
+fn end_answer<T: Tree>(
+    alloc: Global,
+    tree: &T,
+    property: Property,
+    end: End,
+) -> Result<Answer, AllocError>
+    ensures { T.is_known ≡ true → IfOk result (λ answer. answer ≡ end_answer (T.held tree.now) property end) }
+{
+    match end {
         End::Found(place) => place_answer(alloc, tree, property, place.as_str()),
-        End::Nothing => missing_answer(alloc, tree, property, path),
+        End::Nothing => Ok(Answer::No),
         End::Unknown => Ok(Answer::Unknown),
     }
 }
@@ -57,56 +74,36 @@ fn place_answer<T: Tree>(
     place: &str,
 ) -> Result<Answer, AllocError>
     ensures { T.is_known ≡ true → IfOk result (λ answer.
-        answer ≡ node_answer property (node_at (T.held tree.now) place.now) ((T.held tree.now).status place.now)) }
+        answer ≡ end_answer (T.held tree.now) property (End.Found place.now)) }
 {
-    let node = node_at(alloc, tree, place)?;
+    if place.is_empty() {
+        return Ok(Answer::Unknown);
+    }
+    let node = tree.node(alloc, place)?;
     let status = tree.status(alloc, place)?;
     Ok(node_answer(property, &node, status))
 }
 
-// Returns what is at a path without links.
-fn node_at<T: Tree>(alloc: Global, tree: &T, place: &str) -> Result<Node, AllocError>
-    ensures { T.is_known ≡ true → IfOk result (λ node. node ≡ node_at (T.held tree.now) place.now) }
-{
-    if place.is_empty() {
-        return Ok(Node::Directory);
-    }
-    tree.node(alloc, place)
-}
-
-// Returns whether what a path that leads nowhere would lead to has a property.
-fn missing_answer<T: Tree>(
+/// Returns whether run/systemd/system has a property.
+///
+/// # Errors
+///
+/// `AllocError` if an allocation fails.
+pub(crate) fn booted_answer<T: Tree>(
     alloc: Global,
     tree: &T,
     property: Property,
-    path: &str,
 ) -> Result<Answer, AllocError>
-    ensures { T.is_known ≡ true → IfOk result (λ answer. answer ≡ missing_answer (T.held tree.now) property path.now) }
+    ensures { T.is_known ≡ true → IfOk result (λ answer. answer ≡ booted_answer (T.held tree.now) property) }
 {
-    if path != "/run/systemd/system" {
-        return Ok(Answer::No);
+    match lead_of(alloc, tree, BOOTED_PATH)? {
+        End::Found(place) => place_answer(alloc, tree, property, place.as_str()),
+        End::Nothing => {
+            let init = init_answer(lead_of(alloc, tree, "sbin/init")?);
+            Ok(directory_if(property, init))
+        }
+        End::Unknown => Ok(Answer::Unknown),
     }
-    let end = init_end(alloc, tree)?;
-    let init = init_answer(end);
-    Ok(missing_by(init, property, path))
-}
-
-// Returns whether what a path that leads nowhere would lead to has a property, by whether systemd is the init.
-fn missing_by(init: Answer, property: Property, path: &str) -> Answer
-    ensures { result ≡ missing_by init property path.now }
-{
-    if path == "/run/systemd/system" {
-        directory_if(property, init)
-    } else {
-        Answer::No
-    }
-}
-
-// Returns where sbin/init leads.
-fn init_end<T: Tree>(alloc: Global, tree: &T) -> Result<End, AllocError>
-    ensures { T.is_known ≡ true → IfOk result (λ end. end ≡ init_end (T.held tree.now)) }
-{
-    follow(alloc, tree, "sbin/init")
 }
 
 // Returns whether systemd is at the end of a path's links.

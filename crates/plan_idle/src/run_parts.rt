@@ -76,6 +76,9 @@ pub(crate) fn no_scripts_answer<T: Tree>(
     let End::Found(dir) = follow(alloc, tree, path)? else {
         return Ok(Answer::Acts);
     };
+    if !tree.node(alloc, dir.as_str())?.is_directory() {
+        return Ok(Answer::Acts);
+    }
     match tree.names(alloc, dir.as_str())? {
         None => Ok(Answer::Acts),
         Some(listing) => {

@@ -1,11 +1,12 @@
 //! The scripts that a command may run.
 
-ghost use Rattle.std.specs.Prelude.{◌≡◌, true, IfOk, map, flat_map, option_map};
+ghost use Rattle.std.specs.Prelude.{◌≡◌, true, IfOk, map, flat_map};
 ghost use Rattle.plan_shell.specs.Tree.{tree_of};
 ghost use Rattle.plan_idle.specs.Scripts.{script_path, script_paths, scripts_run, slash_after};
 
+use crate::known::KnownPlaces;
 use crate::run_parts::scripts;
-use crate::tree_looks::TreeLooks;
+use crate::tree_looks::{Asker, TreeLooks};
 use crate::weighing::gathered_of;
 use plan_shell::ShellList;
 use plan_texts::Text;
@@ -13,7 +14,7 @@ use plan_tree::{Name, Tree};
 use std::alloc::{AllocError, Global};
 
 /// Returns the paths of the scripts that a command may run: those of all its `run-parts [-OPTION ..] PATH` commands that
-/// may run, in order (run-parts(8) of Debian). `path` is the crontab's last setting of PATH above the line.
+/// may run, in order (run-parts(8) of Debian), if this user runs it, and what is at these places is known.
 ///
 /// # Errors
 ///
@@ -23,12 +24,13 @@ pub fn scripts_run<T: Tree>(
     alloc: Global,
     list: &ShellList,
     tree: &T,
-    path: Option<&str>,
+    places: &KnownPlaces,
+    asker: Asker<'_>,
 ) -> Result<Vec<Text>, AllocError>
     ensures { T.is_known ≡ true → IfOk result (λ scripts.
-        scripts.items ≡ scripts_run (T.held tree.now) (option_map (λ path. path.now) path.entry) (tree_of list.now)) }
+        scripts.items ≡ scripts_run (T.held tree.now) places.now asker (tree_of list.now)) }
 {
-    let looks = TreeLooks::new(tree, path);
+    let looks = TreeLooks::new(tree, places, asker);
     let gathered = gathered_of(alloc, list.steps(), &looks)?;
     paths_in_all(alloc, tree, gathered.dirs.as_slice())
 }

@@ -1,14 +1,9 @@
 //! What an idle command is: nothing with an effect runs, whatever the values are that aren't known.
 
-ghost use Rattle.std.specs.Prelude.{◌≡◌, ℕ, Bool, false};
-ghost use Rattle.plan_shell.specs.Tree.{Shell};
-ghost use Rattle.plan_idle.specs.Outcomes.{outcomes};
-ghost use Rattle.plan_idle.specs.Run.{Looks, run};
+ghost use Rattle.plan_idle.specs.Law.{IdleRunsNothing};
 
-/// A command that may run nothing with an effect runs nothing with an effect, whatever the values are of the simple
-/// commands whose value isn't known.
-#[tactic(auto, using(crate::proofs::RunLemmas::idle_runs_nothing))]
+/// A command that is idle in a tree runs nothing with an effect, in no tree that has the same at each place that is known to
+/// its user, whatever the values are of the simple commands whose value isn't known.
 pub fn idle_runs_nothing()
-    ensures { (looks : Looks) (values : ℕ → Bool) (tree : Shell) →
-        (outcomes looks tree).may_act ≡ false → (run looks values 0 tree).acts ≡ false }
+    ensures { IdleRunsNothing }
 {}

@@ -1,66 +1,106 @@
 //! What a command finds where it looks in a tree.
 
-ghost use Rattle.std.specs.Prelude.{◌≡◌, true, IfOk, map, option_map, string_bytes};
-ghost use Rattle.plan_idle.specs.Answers.{answer_among, answer_at, answer_in, dirs_of, or_answer, path_in, path_or_default};
+ghost use Rattle.std.specs.Prelude.{◌≡◌, true, IfOk, map, string_bytes};
+ghost use Rattle.plan_idle.specs.Answers.{answer_among, answer_at, answer_in, command_by, dirs_of, only_usr, or_answer, path_in, word_answer};
 ghost use Rattle.plan_idle.specs.declared.answer.Answer.TheVariants.{No};
 
 use crate::answer::{Answer, Look};
-use crate::files::{path_answer, program_answer};
+use crate::files::{BOOTED_PATH, booted_answer, path_answer, program_answer};
+use crate::known::KnownPlaces;
+use crate::known_tree::KnownTree;
 use crate::run_parts::no_scripts_answer;
+use crate::shell_words::word_answer;
 use plan_shell::Property;
 use plan_texts::begins_with;
 use plan_tree::Tree;
 use std::alloc::{AllocError, Global};
+use std::marker::Model;
 
-// The PATH of cron(8), where a crontab doesn't set it.
-const DEFAULT_PATH: &str = "/usr/local/sbin:/usr/local/bin:/sbin:/bin:/usr/sbin:/usr/bin";
+/// Who looks.
+#[derive(Clone, Copy, Debug)]
+pub struct Asker<'a> {
+    /// Whether it is root.
+    pub is_root: bool,
+    /// Whether the shell is bash. Otherwise it is dash or bash.
+    pub is_bash: bool,
+    /// The PATH of the shell.
+    pub path: &'a str,
+}
+
+impl<'a> Model for Asker<'a> {
+    ghost use Rattle.plan_idle.specs.Answers.{Asker};
+
+    ghost Value = { Asker };
+
+    ghost view = { λ asker. record { is_root = asker.is_root; is_bash = asker.is_bash; path = asker.path.now } };
+}
 
 /// A tree in which the commands of a crontab look for files.
 #[derive(Drop)]
 pub struct TreeLooks<'a, T: Tree> {
     tree: &'a T,
-    path: Option<&'a str>,
+    places: &'a KnownPlaces,
+    asker: Asker<'a>,
 }
 
 impl<'a, T: Tree> TreeLooks<'a, T> {
-    /// Returns a tree in which commands look for files. `path` is the crontab's last setting of PATH above the line.
-    pub fn new(tree: &'a T, path: Option<&'a str>) -> TreeLooks<'a, T>
-        ensures { ⟦<TreeLooks<'a, T> as Look>⟧.looks result
-            ≡ answer_at (T.held tree.now) (option_map (λ path. path.now) path.entry) }
+    /// Returns a tree in which the commands of a user look for files, if what is at these places of it is known.
+    pub fn new(tree: &'a T, places: &'a KnownPlaces, asker: Asker<'a>) -> TreeLooks<'a, T>
+        ensures { ⟦<TreeLooks<'a, T> as Look>⟧.looks result ≡ answer_at (T.held tree.now) places.now asker }
     {
-        TreeLooks { tree, path }
-    }
-}
-
-impl<T: Tree> Look for TreeLooks<'_, T> {
-    ghost use Rattle.std.specs.Prelude.{option_map};
-    ghost use Rattle.plan_idle.specs.Answers.{answer_at};
-
-    ghost is_known = { T.is_known };
-
-    ghost looks = { λ looks. answer_at (T.held looks.tree.now) (option_map (λ path. path.now) looks.path) };
-
-    fn look(&self, alloc: Global, property: Property, subject: &str) -> Result<Answer, AllocError> {
-        match property {
-            Property::Command => answer_by_path(
-                alloc,
-                self.tree,
-                subject,
-                path_or_default(self.path),
-            ),
-            Property::NoScripts => no_scripts_answer(alloc, self.tree, subject),
-            property => path_answer(alloc, self.tree, property, subject),
+        TreeLooks {
+            tree,
+            places,
+            asker,
         }
     }
 }
 
-// Returns the PATH in which commands are.
-fn path_or_default<'a>(path: Option<&'a str>) -> &'a str
-    ensures { result.now ≡ path_or_default (option_map (λ path. path.now) path.entry) }
+impl<T: Tree> Look for TreeLooks<'_, T> {
+    ghost use Rattle.plan_idle.specs.Answers.{answer_at};
+
+    ghost is_known = { T.is_known };
+
+    ghost looks = { λ looks. answer_at (T.held looks.tree.now) looks.places.now looks.asker };
+
+    fn look(&self, alloc: Global, property: Property, subject: &str) -> Result<Answer, AllocError> {
+        let known = KnownTree {
+            tree: self.tree,
+            places: self.places,
+            is_root: self.asker.is_root,
+            only_usr: only_usr(property),
+        };
+        match property {
+            Property::Command => {
+                command_answer(alloc, &known, self.asker, subject)
+            }
+            Property::NoScripts => no_scripts_answer(alloc, &known, subject),
+            property if subject == BOOTED_PATH => booted_answer(alloc, self.tree, property),
+            property => path_answer(alloc, &known, property, subject),
+        }
+    }
+}
+
+// Returns whether a property is known in usr alone.
+fn only_usr(property: Property) -> bool
+    ensures { result ≡ only_usr property }
 {
-    match path {
-        Some(path) => path,
-        None => DEFAULT_PATH,
+    matches!(property, Property::NotEmpty)
+}
+
+// Returns whether a command has this name: in the shell, or in a directory of PATH.
+fn command_answer<T: Tree>(
+    alloc: Global,
+    tree: &T,
+    asker: Asker<'_>,
+    name: &str,
+) -> Result<Answer, AllocError>
+    ensures { T.is_known ≡ true → IfOk result (λ answer.
+        answer ≡ command_by (T.held tree.now) name.now asker.path (word_answer asker.is_bash name.now)) }
+{
+    match word_answer(alloc, asker.is_bash, name)? {
+        Answer::No => answer_by_path(alloc, tree, name, asker.path),
+        answer => Ok(answer),
     }
 }
 

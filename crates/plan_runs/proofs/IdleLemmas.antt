@@ -2,7 +2,7 @@
 --
 -- `left_out` is the law for any test on line numbers that agrees with what is idle, and `agrees_from` says that the list of
 -- the idle jobs is such a test.
-use Rattle.std.proofs.Common.{◌≡◌, ℕ, ◌+◌, ◌<◌, ◌==◌, Bool, true, false, not, cond, List, [], ◌∷◌, ◌++◌, length, filter, Option, Some, None, is_some, Ok, Err, refl, ap, subst, ◌∙◌, append_assoc, arith}
+use Rattle.std.proofs.Common.{◌≡◌, ℕ, ◌+◌, ◌<◌, ◌==◌, Bool, true, false, not, cond, if◌then◌else◌, List, [], ◌∷◌, ◌++◌, length, filter, Option, Some, None, is_some, Ok, Err, refl, ap, subst, ◌∙◌, append_assoc, arith}
 use Rattle.std.proofs.lemmas.Bool.Decides.{nat_tests}
 use Rattle.std.proofs.lemmas.List.{append-nil}
 use Rattle.std.proofs.lemmas.List.Elements.{All-nil, All-cons, All-head, All-tail}
@@ -19,9 +19,9 @@ use Rattle.plan_texts.proofs.LinesLemmas.{none_in_lines}
 use Rattle.plan_texts.specs.Lines.{HasNoNewline, lines}
 use Rattle.plan_tree.specs.Tree.{Held}
 use Rattle.plan_runs.specs.declared.idle.IdleJob.{IdleJob}
-use Rattle.plan_runs.specs.Commands.{line_steps}
-use Rattle.plan_runs.specs.Idle.{IdleJobsAreLeftOut, active_lines, active_or_all, idle_from, idle_on, idle_why, is_active, kept_from, kept_line, steps_why}
-use Rattle.plan_runs.specs.Settings.{Settings, first_settings, settings_after}
+use Rattle.plan_runs.specs.Commands.{job_command}
+use Rattle.plan_runs.specs.Idle.{IdleJobsAreLeftOut, active_lines, active_or_all, idle_from, idle_on, command_why, idle_why, is_active, kept_from, kept_line}
+use Rattle.plan_runs.specs.Settings.{Settings, first_settings, is_read, settings_after}
 use Rattle.plan_runs.specs.Texts.{KnownActive}
 
 -- ---- the entries that are left
@@ -38,15 +38,15 @@ empty_line : (label : List ℕ) (kind : Kind) (number : ℕ) → line_reading la
 unfolding line_reading
 empty_line label kind number = refl
 
-empty_steps :
-    (held : Held) (kind : Kind) (path : Option (List ℕ)) (is_read : Bool) (number : ℕ) →
-    steps_why held path (line_steps kind is_read number []) ≡ None
-empty_steps held kind path true number = rw (empty_line [] kind number) refl
-empty_steps held kind path false number = refl
+empty_command :
+    (held : Held) (kind : Kind) (settings : Settings) (is_read : Bool) (number : ℕ) →
+    command_why held settings (if is_read then job_command settings.is_roots (line_reading [] kind number []) else None) ≡ None
+empty_command held kind settings true number = rw (empty_line [] kind number) refl
+empty_command held kind settings false number = refl
 
 -- an empty line has no idle job
 pub empty_why : (held : Held) (kind : Kind) (settings : Settings) (number : ℕ) → idle_why held kind settings number [] ≡ None
-empty_why held kind settings number = empty_steps held kind settings.path settings.is_read number
+empty_why held kind settings number = empty_command held kind settings (is_read settings) number
 
 -- the entries of a line that stays
 stays :
@@ -172,17 +172,17 @@ filter_all (x ∷ more) = ap (λ rest. x ∷ rest) (filter_all more)
 
 -- the law where some jobs are idle, and so it goes for the lines themselves
 in_lines :
-    (held : Held) (kind : Kind) (label text : List ℕ) →
-    entries_of_lines label kind (lines (active_lines held kind (lines text)).text)
-    ≡ filter (λ entry. is_active (active_lines held kind (lines text)).idle entry) (entries_of_lines label kind (lines text))
+    (held : Held) (kind : Kind) (owner label text : List ℕ) →
+    entries_of_lines label kind (lines (active_lines held kind owner (lines text)).text)
+    ≡ filter (λ entry. is_active (active_lines held kind owner (lines text)).idle entry) (entries_of_lines label kind (lines text))
 unfolding entries_of_lines
-in_lines held kind label text =
+in_lines held kind owner label text =
     let ls = lines text in
-    let kept = kept_from held kind first_settings 1 ls in
+    let kept = kept_from held kind (first_settings owner) 1 ls in
     ap (λ (found : List (List ℕ)). filter_map (line_entry label kind) (enumerate_from 0 found))
-    (lines_of_written kept (kept_none held kind first_settings 1 ls (none_in_lines text)))
-    ∙ left_out held kind first_settings (in_idle (idle_from held kind first_settings 1 ls)) label 0 ls
-    (agrees_from held kind first_settings [] 0 ls (λ number less. refl))
+    (lines_of_written kept (kept_none held kind (first_settings owner) 1 ls (none_in_lines text)))
+    ∙ left_out held kind (first_settings owner) (in_idle (idle_from held kind (first_settings owner) 1 ls)) label 0 ls
+    (agrees_from held kind (first_settings owner) [] 0 ls (λ number less. refl))
 
 either :
     (label : List ℕ) (kind : Kind) (text : List ℕ) (active : KnownActive) →
@@ -198,4 +198,5 @@ either label kind text active law =
     ]
 
 pub idle_jobs_are_left_out : IdleJobsAreLeftOut
-idle_jobs_are_left_out held kind label text = either label kind text (active_lines held kind (lines text)) (in_lines held kind label text)
+idle_jobs_are_left_out held kind owner label text =
+    either label kind text (active_lines held kind owner (lines text)) (in_lines held kind owner label text)

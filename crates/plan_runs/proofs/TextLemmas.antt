@@ -143,16 +143,16 @@ either_read text kept (job ∷ idle) few utf8 kept_is shorter =
     rw some (is_read kept (omega (arith, few, shorter)) kept_is)
 
 pub active_text_is_read : ActiveTextIsRead
-active_text_is_read held kind bytes text read =
+active_text_is_read held kind owner bytes text read =
     let is = read_by (is_too_large bytes) (is_utf8 bytes) bytes text read in
     let few : length bytes ≤ most_bytes = few_bytes bytes is.0 in
     let utf8 : IsUtf8 bytes = IsUtf8-from_is_utf8 bytes is.1.0 in
     let ls = lines bytes in
     let ended : IsUtf8 (written ls) = subst IsUtf8 (sym (written-lines bytes)) (ended_utf8 bytes utf8) in
     let long : length (written ls) ≤ length bytes + 1 = rw (written-lines bytes) (ended_length bytes) in
-    let shorter : length (written (kept_from held kind first_settings 1 ls)) + length (idle_from held kind first_settings 1 ls)
-    ≤ length bytes + 1 = omega (arith, kept_length held kind first_settings 1 ls, long) in
-    let P : List ℕ → Type 0 = λ t. text_reading (active_or_all bytes (active_lines held kind (lines t))).text
-    ≡ Ok (active_or_all bytes (active_lines held kind (lines t))).text in
-    subst P is.1.1 (either_read bytes (active_lines held kind ls).text (active_lines held kind ls).idle few utf8
-    (kept_utf8 held kind first_settings 1 ls ended) shorter)
+    let shorter : length (written (kept_from held kind (first_settings owner) 1 ls)) + length (idle_from held kind (first_settings owner) 1 ls)
+    ≤ length bytes + 1 = omega (arith, kept_length held kind (first_settings owner) 1 ls, long) in
+    let P : List ℕ → Type 0 = λ t. text_reading (active_or_all bytes (active_lines held kind owner (lines t))).text
+    ≡ Ok (active_or_all bytes (active_lines held kind owner (lines t))).text in
+    subst P is.1.1 (either_read bytes (active_lines held kind owner ls).text (active_lines held kind owner ls).idle few utf8
+    (kept_utf8 held kind (first_settings owner) 1 ls ended) shorter)

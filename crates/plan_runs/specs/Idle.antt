@@ -1,32 +1,38 @@
 -- The idle jobs of a crontab, and its text without them (agenda).
 use Rattle.std.specs.Prelude.{◌≡◌, ℕ, ◌+◌, ◌==◌, Bool, not, if◌then◌else◌, List, [], ◌∷◌, length, filter, Option, None, Some, Ok, Err}
 use Rattle.std.specs.List.{cons_option, list_any}
-use Rattle.plan_idle.specs.Answers.{answer_at}
+use Rattle.plan_idle.specs.Answers.{Asker, answer_at}
+use Rattle.plan_idle.specs.Known.{places_of}
 use Rattle.plan_idle.specs.Reason.{reason_of}
 use Rattle.plan_rules.specs.declared.crontabs.Kind.{Kind}
 use Rattle.plan_rules.specs.declared.entry.Entry.{Entry}
 use Rattle.plan_rules.specs.Crontab.{entries_of_lines}
 use Rattle.plan_rules.specs.FileText.{text_reading}
 use Rattle.plan_rules.specs.LineFaults.{TextReading}
-use Rattle.plan_shell.specs.declared.step.Step.{Step}
 use Rattle.plan_shell.specs.Tree.{tree_of}
 use Rattle.plan_texts.specs.Lines.{lines, written}
 use Rattle.plan_tree.specs.Tree.{Held}
 use Rattle.plan_runs.specs.declared.idle.IdleJob.{IdleJob}
-use Rattle.plan_runs.specs.Commands.{line_steps}
+use Rattle.plan_runs.specs.declared.commands.LineCommand.{LineCommand}
+use Rattle.plan_runs.specs.Commands.{line_command}
 use Rattle.plan_runs.specs.Settings.{Settings, first_settings, settings_after}
 use Rattle.plan_runs.specs.Texts.{KnownActive}
 
 -- ---- one line
 
--- why a command with these steps is idle in a tree, with this PATH; nothing, if it isn't
-abbrev pub steps_why : Held → (path : Option (List ℕ)) → Option (List Step) → Option (List ℕ)
-steps_why held path None = None
-steps_why held path (Some steps) = reason_of (answer_at held path) (tree_of steps)
+-- who looks, where a command runs with these settings
+abbrev pub asker_of : Settings → (is_root : Bool) → Asker
+asker_of settings is_root = record { is_root = is_root; is_bash = settings.is_bash; path = settings.path }
+
+-- why a command is idle in a tree, with these settings; nothing, if it isn't
+abbrev pub command_why : Held → Settings → Option LineCommand → Option (List ℕ)
+command_why held settings None = None
+command_why held settings (Some command) =
+    reason_of (answer_at held (places_of held) (asker_of settings command.is_root)) (tree_of command.list)
 
 -- why the job of a line is idle; nothing, if it has none or it isn't idle
 abbrev pub idle_why : Held → Kind → Settings → (number : ℕ) → (line : List ℕ) → Option (List ℕ)
-idle_why held kind settings number line = steps_why held settings.path (line_steps kind settings.is_read number line)
+idle_why held kind settings number line = command_why held settings (line_command kind settings number line)
 
 -- the idle job of a line with this number, if it is idle for this reason
 abbrev pub idle_on : (number : ℕ) → (why : Option (List ℕ)) → Option IdleJob
@@ -52,10 +58,10 @@ kept_from held kind settings number (line ∷ more) =
     kept_line (idle_why held kind settings number line) line
     ∷ kept_from held kind (settings_after settings line) (number + 1) more
 
-abbrev pub active_lines : Held → Kind → (ls : List (List ℕ)) → KnownActive
-active_lines held kind ls = record {
-  text = written (kept_from held kind first_settings 1 ls);
-  idle = idle_from held kind first_settings 1 ls;
+abbrev pub active_lines : Held → Kind → (owner : List ℕ) → (ls : List (List ℕ)) → KnownActive
+active_lines held kind owner ls = record {
+  text = written (kept_from held kind (first_settings owner) 1 ls);
+  idle = idle_from held kind (first_settings owner) 1 ls;
 }
 
 -- ---- a crontab
@@ -69,9 +75,9 @@ abbrev pub active_or_all : (bytes : List ℕ) → KnownActive → KnownActive
 active_or_all bytes active = if length active.idle == 0 then all_active bytes else active
 
 -- a text that is too large or isn't UTF-8 makes no jobs anyway
-abbrev pub active_crontab : Held → Kind → (bytes : List ℕ) → TextReading (List ℕ) → KnownActive
-active_crontab held kind bytes (Ok text) = active_or_all bytes (active_lines held kind (lines text))
-active_crontab held kind bytes (Err fault) = all_active bytes
+abbrev pub active_crontab : Held → Kind → (owner bytes : List ℕ) → TextReading (List ℕ) → KnownActive
+active_crontab held kind owner bytes (Ok text) = active_or_all bytes (active_lines held kind owner (lines text))
+active_crontab held kind owner bytes (Err fault) = all_active bytes
 
 -- ---- the laws
 
@@ -82,14 +88,14 @@ is_active idle entry = not (list_any (λ job. job.line == entry.line) idle)
 -- the text without the idle jobs has the entries of the others, and their lines have the same numbers
 abbrev pub IdleJobsAreLeftOut : Type 0
 IdleJobsAreLeftOut =
-    (held : Held) (kind : Kind) (label text : List ℕ) →
-    let active = active_crontab held kind text (Ok text) in
+    (held : Held) (kind : Kind) (owner label text : List ℕ) →
+    let active = active_crontab held kind owner text (Ok text) in
     entries_of_lines label kind (lines active.text)
     ≡ filter (λ entry. is_active active.idle entry) (entries_of_lines label kind (lines text))
 
 -- the text without the idle jobs is neither too large nor other than UTF-8
 abbrev pub ActiveTextIsRead : Type 0
 ActiveTextIsRead =
-    (held : Held) (kind : Kind) (bytes text : List ℕ) → text_reading bytes ≡ Ok text →
-    let active = active_crontab held kind bytes (Ok text) in
+    (held : Held) (kind : Kind) (owner bytes text : List ℕ) → text_reading bytes ≡ Ok text →
+    let active = active_crontab held kind owner bytes (Ok text) in
     text_reading active.text ≡ Ok active.text

@@ -1,17 +1,17 @@
 //! The jobs of a crontab that run nothing with an effect on a machine.
 
-ghost use Rattle.std.specs.Prelude.{◌≡◌, ◌≤◌, ◌++◌, true, ◌∷◌, [], IfOk, OnOk, length, map, option_map};
+ghost use Rattle.std.specs.Prelude.{◌≡◌, ◌≤◌, ◌++◌, true, ◌∷◌, [], IfOk, OnOk, length, map};
 ghost use Rattle.std.specs.List.{cons_option};
 ghost use Rattle.std.specs.Str.{byte};
 ghost use Rattle.plan_rules.specs.FileText.{text_reading};
 ghost use Rattle.plan_texts.specs.Limits.{most_bytes};
-ghost use Rattle.plan_runs.specs.Idle.{ActiveTextIsRead, IdleJobsAreLeftOut, active_crontab, active_lines, all_active, idle_on, kept_line, steps_why};
+ghost use Rattle.plan_idle.specs.Known.{places_of};
+ghost use Rattle.plan_runs.specs.Idle.{ActiveTextIsRead, IdleJobsAreLeftOut, active_crontab, active_lines, all_active, command_why, idle_on, kept_line};
 
-use crate::commands::line_command;
-use crate::settings::{is_read_after, path_after};
-use plan_idle::{TreeLooks, idle_reason};
+use crate::commands::{LineCommand, line_command};
+use crate::settings::Settings;
+use plan_idle::{KnownPlaces, TreeLooks, idle_reason};
 use plan_rules::{Kind, text_of};
-use plan_shell::ShellList;
 use plan_texts::Text;
 use plan_texts::lines::lines;
 use plan_tree::Tree;
@@ -48,7 +48,10 @@ impl Model for ActiveCrontab {
 ///
 /// A job is idle if nothing with an effect can run on the machine, such as in `test -x /usr/sbin/anacron || run-parts DIR`
 /// with anacron. Its command is read as by sh(1), up to the first `%` (crontab(5)). Programs are where the last `PATH=`
-/// above its line says. If the last `SHELL=` above it isn't sh, dash or bash in /bin or /usr/bin, the job isn't idle.
+/// above its line says. If the last `SHELL=` above it isn't sh, dash or bash in /bin or /usr/bin, the job isn't idle; nor if it is
+/// bash, and `BASH_ENV=` is above the line.
+///
+/// `owner` is the name of the user who owns the crontab. A crontab of the system has a user in each line.
 ///
 /// The other lines keep their numbers. If no job is idle, or the bytes are no text of a crontab, they are unchanged.
 ///
@@ -59,16 +62,18 @@ pub fn active_crontab<T: Tree>(
     alloc: Global,
     tree: &T,
     kind: Kind,
+    owner: &str,
     bytes: &[u8],
 ) -> Result<ActiveCrontab, AllocError>
     ensures { T.is_known ≡ true → IfOk result (λ active.
-        active ≡ active_crontab (T.held tree.now) kind bytes.now (text_reading bytes.now)) }
+        active ≡ active_crontab (T.held tree.now) kind owner.now bytes.now (text_reading bytes.now)) }
 {
     let Ok(text) = text_of(bytes) else {
         return all_active(alloc, bytes);
     };
     let lines = lines(alloc, text)?;
-    let active = active_lines(alloc, tree, kind, lines.as_slice())?;
+    let places = KnownPlaces::of_tree(alloc, tree)?;
+    let active = active_lines(alloc, tree, &places, kind, owner, lines.as_slice())?;
     if active.idle.is_empty() {
         return all_active(alloc, bytes);
     }
@@ -89,25 +94,25 @@ fn all_active(alloc: Global, bytes: &[u8]) -> Result<ActiveCrontab, AllocError>
 fn active_lines<T: Tree>(
     alloc: Global,
     tree: &T,
+    places: &KnownPlaces,
     kind: Kind,
+    owner: &str,
     lines: &[&str],
 ) -> Result<ActiveCrontab, AllocError>
     requires { length lines.now ≤ most_bytes }
-    ensures { T.is_known ≡ true → IfOk result (λ active.
-        active ≡ active_lines (T.held tree.now) kind (map (λ line. line.now) lines.now)) }
+    ensures { T.is_known ≡ true → places.now ≡ places_of (T.held tree.now) → IfOk result (λ active.
+        active ≡ active_lines (T.held tree.now) kind owner.now (map (λ line. line.now) lines.now)) }
 {
     let mut text = Vec::new(alloc);
     let mut idle = Vec::new(alloc);
-    let mut path = None;
-    let mut is_read = true;
+    let mut settings = Settings::new(owner);
     let mut number = 1;
     for line in lines {
-        let command = line_command(alloc, kind, is_read, number, line)?;
-        let why = command_why(alloc, tree, path, command)?;
+        let command = line_command(alloc, kind, settings, number, line)?;
+        let why = command_why(alloc, tree, places, settings, command)?;
         add_line(&mut text, &why, line)?;
         add_idle(&mut idle, number, why)?;
-        path = path_after(path, line);
-        is_read = is_read_after(is_read, line);
+        settings = settings.after(line);
         number = number.saturating_add(1);
     }
     Ok(ActiveCrontab { text, idle })
@@ -117,14 +122,18 @@ fn active_lines<T: Tree>(
 fn command_why<T: Tree>(
     alloc: Global,
     tree: &T,
-    path: Option<&str>,
-    command: Option<ShellList>,
+    places: &KnownPlaces,
+    settings: Settings<'_>,
+    command: Option<LineCommand>,
 ) -> Result<Option<Text>, AllocError>
-    ensures { T.is_known ≡ true → IfOk result (λ why.
-        why ≡ steps_why (T.held tree.now) (option_map (λ path. path.now) path.entry) command) }
+    ensures { T.is_known ≡ true → places.now ≡ places_of (T.held tree.now) → IfOk result (λ why.
+        why ≡ command_why (T.held tree.now) settings command) }
 {
     match command {
-        Some(list) => idle_reason(alloc, &list, &TreeLooks::new(tree, path)),
+        Some(command) => {
+            let looks = TreeLooks::new(tree, places, settings.asker(command.is_root));
+            idle_reason(alloc, &command.list, &looks)
+        }
         None => Ok(None),
     }
 }

@@ -1,17 +1,17 @@
 //! The scripts that the jobs of a crontab may run by run-parts on a machine (run-parts(8) of Debian).
 
-ghost use Rattle.std.specs.Prelude.{◌≡◌, ◌≤◌, ◌++◌, true, [], IfOk, OnOk, length, map, option_map};
+ghost use Rattle.std.specs.Prelude.{◌≡◌, ◌≤◌, ◌++◌, true, [], IfOk, OnOk, length, map};
 ghost use Rattle.std.specs.List.{cons_option};
 ghost use Rattle.plan_rules.specs.FileText.{text_reading};
 ghost use Rattle.plan_texts.specs.Limits.{most_bytes};
-ghost use Rattle.plan_runs.specs.Scripts.{scripts_from, scripts_of_lines, scripts_on, steps_scripts};
+ghost use Rattle.plan_idle.specs.Known.{places_of};
+ghost use Rattle.plan_runs.specs.Scripts.{command_scripts, scripts_from, scripts_of_lines, scripts_on};
 ghost use Rattle.plan_runs.specs.Settings.{first_settings};
 
-use crate::commands::line_command;
-use crate::settings::{is_read_after, path_after};
-use plan_idle::scripts_run;
+use crate::commands::{LineCommand, line_command};
+use crate::settings::Settings;
+use plan_idle::{KnownPlaces, scripts_run};
 use plan_rules::{Kind, text_of};
-use plan_shell::ShellList;
 use plan_texts::Text;
 use plan_texts::lines::lines;
 use plan_tree::Tree;
@@ -47,39 +47,41 @@ pub fn scripts_of_lines<T: Tree>(
     alloc: Global,
     tree: &T,
     kind: Kind,
+    owner: &str,
     bytes: &[u8],
 ) -> Result<Vec<LineScripts>, AllocError>
     ensures { T.is_known ≡ true → IfOk result (λ lines.
-        lines.items ≡ scripts_of_lines (T.held tree.now) kind (text_reading bytes.now)) }
+        lines.items ≡ scripts_of_lines (T.held tree.now) kind owner.now (text_reading bytes.now)) }
 {
     let Ok(text) = text_of(bytes) else {
         return Ok(Vec::new(alloc));
     };
     let lines = lines(alloc, text)?;
-    scripts_from(alloc, tree, kind, lines.as_slice())
+    let places = KnownPlaces::of_tree(alloc, tree)?;
+    scripts_from(alloc, tree, &places, kind, owner, lines.as_slice())
 }
 
 // Returns the scripts of the jobs of lines.
 fn scripts_from<T: Tree>(
     alloc: Global,
     tree: &T,
+    places: &KnownPlaces,
     kind: Kind,
+    owner: &str,
     lines: &[&str],
 ) -> Result<Vec<LineScripts>, AllocError>
     requires { length lines.now ≤ most_bytes }
-    ensures { T.is_known ≡ true → IfOk result (λ found.
-        found.items ≡ scripts_from (T.held tree.now) kind first_settings 1 (map (λ line. line.now) lines.now)) }
+    ensures { T.is_known ≡ true → places.now ≡ places_of (T.held tree.now) → IfOk result (λ found.
+        found.items ≡ scripts_from (T.held tree.now) kind (first_settings owner.now) 1 (map (λ line. line.now) lines.now)) }
 {
     let mut found = Vec::new(alloc);
-    let mut path = None;
-    let mut is_read = true;
+    let mut settings = Settings::new(owner);
     let mut number = 1;
     for line in lines {
-        let command = line_command(alloc, kind, is_read, number, line)?;
-        let scripts = command_scripts(alloc, tree, path, command)?;
+        let command = line_command(alloc, kind, settings, number, line)?;
+        let scripts = command_scripts(alloc, tree, places, settings, command)?;
         add_scripts(&mut found, number, scripts)?;
-        path = path_after(path, line);
-        is_read = is_read_after(is_read, line);
+        settings = settings.after(line);
         number = number.saturating_add(1);
     }
     Ok(found)
@@ -89,14 +91,18 @@ fn scripts_from<T: Tree>(
 fn command_scripts<T: Tree>(
     alloc: Global,
     tree: &T,
-    path: Option<&str>,
-    command: Option<ShellList>,
+    places: &KnownPlaces,
+    settings: Settings<'_>,
+    command: Option<LineCommand>,
 ) -> Result<Vec<Text>, AllocError>
-    ensures { T.is_known ≡ true → IfOk result (λ scripts.
-        scripts.items ≡ steps_scripts (T.held tree.now) (option_map (λ path. path.now) path.entry) command) }
+    ensures { T.is_known ≡ true → places.now ≡ places_of (T.held tree.now) → IfOk result (λ scripts.
+        scripts.items ≡ command_scripts (T.held tree.now) settings command) }
 {
     match command {
-        Some(list) => scripts_run(alloc, &list, tree, path),
+        Some(command) => {
+            let asker = settings.asker(command.is_root);
+            scripts_run(alloc, &command.list, tree, places, asker)
+        }
         None => Ok(Vec::new(alloc)),
     }
 }

@@ -1,6 +1,6 @@
 use Rattle.std.proofs.Common.{◌≡◌, ◌≤◌, ◌+◌, ◌++◌, true, drop, length, map}
-use Rattle.std.specs.Option.{option_map}
 use Rattle.plan_texts.specs.Lines.{written}
+use Rattle.plan_idle.specs.Known.{places_of}
 use Rattle.plan_texts.specs.Limits.{most_bytes}
 use Rattle.plan_runs.specs.Idle.{idle_from, kept_from}
 use Rattle.plan_runs.specs.Settings.{first_settings}
@@ -11,12 +11,12 @@ abbrev pub invariant-loop-line : goal.invariant-loop-line
 invariant-loop-line g l = record {
   number : l.number ≡ 1 + l.line-index;
   few : length l.lines ≤ most_bytes;
-  text : g.T.Tree.is_known ≡ true →
-      l.text.items ++ written (kept_from (g.T.Tree.held l.tree) l.kind (record { path = option_map (λ path. path.now) l.path; is_read = l.is_read })
+  text : g.T.Tree.is_known ≡ true → l.places ≡ places_of (g.T.Tree.held l.tree) →
+      l.text.items ++ written (kept_from (g.T.Tree.held l.tree) l.kind l.settings
       l.number (map (λ line. line.now) (drop l.line-index l.lines)))
-      ≡ written (kept_from (g.T.Tree.held l.tree) l.kind first_settings 1 (map (λ line. line.now) l.lines));
-  idle : g.T.Tree.is_known ≡ true →
-      l.idle.items ++ idle_from (g.T.Tree.held l.tree) l.kind (record { path = option_map (λ path. path.now) l.path; is_read = l.is_read })
+      ≡ written (kept_from (g.T.Tree.held l.tree) l.kind (first_settings l.owner) 1 (map (λ line. line.now) l.lines));
+  idle : g.T.Tree.is_known ≡ true → l.places ≡ places_of (g.T.Tree.held l.tree) →
+      l.idle.items ++ idle_from (g.T.Tree.held l.tree) l.kind l.settings
       l.number (map (λ line. line.now) (drop l.line-index l.lines))
-      ≡ idle_from (g.T.Tree.held l.tree) l.kind first_settings 1 (map (λ line. line.now) l.lines);
+      ≡ idle_from (g.T.Tree.held l.tree) l.kind (first_settings l.owner) 1 (map (λ line. line.now) l.lines);
 }

@@ -1,5 +1,5 @@
 use Rattle.std.proofs.Common.{◌≡◌, ◌≤◌, ◌+◌, ◌++◌, true, drop, length, map}
-use Rattle.std.specs.Option.{option_map}
+use Rattle.plan_idle.specs.Known.{places_of}
 use Rattle.plan_texts.specs.Limits.{most_bytes}
 use Rattle.plan_runs.specs.Scripts.{scripts_from}
 use Rattle.plan_runs.specs.Settings.{first_settings}
@@ -10,8 +10,8 @@ abbrev pub invariant-loop-line : goal.invariant-loop-line
 invariant-loop-line g l = record {
   number : l.number ≡ 1 + l.line-index;
   few : length l.lines ≤ most_bytes;
-  all : g.T.Tree.is_known ≡ true →
-      l.found.items ++ scripts_from (g.T.Tree.held l.tree) l.kind (record { path = option_map (λ path. path.now) l.path; is_read = l.is_read })
+  all : g.T.Tree.is_known ≡ true → l.places ≡ places_of (g.T.Tree.held l.tree) →
+      l.found.items ++ scripts_from (g.T.Tree.held l.tree) l.kind l.settings
       l.number (map (λ line. line.now) (drop l.line-index l.lines))
-      ≡ scripts_from (g.T.Tree.held l.tree) l.kind first_settings 1 (map (λ line. line.now) l.lines);
+      ≡ scripts_from (g.T.Tree.held l.tree) l.kind (first_settings l.owner) 1 (map (λ line. line.now) l.lines);
 }
