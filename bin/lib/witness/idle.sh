@@ -19,15 +19,18 @@ make_places() {
   ln -s nowhere "$1/dangling"
 }
 
-# Makes the root $1 with the crontab on standard input, which cron would load, and a copy of the directory $2.
+# Makes the root $1 with the crontab on standard input, which cron would load, and a copy of the directory $2 at $3. /bin is /usr/bin,
+# which has none of the commands.
 make_idle_root() {
-  mkdir -p "$1"/etc "$1"/usr/sbin "$1$(dirname -- "$2")"
+  mkdir -p "$1"/etc "$1"/usr/sbin "$1"/usr/bin "$1$(dirname -- "$3")"
+  ln -s usr/bin "$1/bin"
   printf 'root:x:0:0:root:/root:/bin/sh\n' >"$1/etc/passwd"
   : >"$1/usr/sbin/cron"
   chmod 755 "$1/usr/sbin/cron"
-  cp -a -- "$2" "$1$2"
+  cp -a -- "$2" "$1$3"
   cat >"$1/etc/crontab"
   chmod 644 "$1/etc/crontab"
+  chmod -R go-w "$1"
 }
 
 # Writes the commands of standard input as lines of a crontab: cron removes a backslash before `%` and `\`.
@@ -74,7 +77,8 @@ compare_idle_commands() {
   chmod 755 "$work" "$work/idle"
   chmod 777 "$work/idle"
   awk -f "$parts/random.awk" -f "$parts/idle-commands.awk" -v seed="$seed" -v count="$cases" -v made="$made" >"$work/idle/commands" </dev/null
-  as_crontab "$made" <"$work/idle/commands" | make_idle_root "$root" "$made"
+  # Only what is in a directory of the system is known: there the made directory is /usr/made.
+  as_crontab "$made" <"$work/idle/commands" | sed "s|$made|/usr/made|g" | make_idle_root "$root" "$made" /usr/made
   "$program" machine check --root "$root" 2>&1 >/dev/null </dev/null | sed -n 's|^agenda: idle: .*/etc/crontab:\([0-9]*\): .*|\1|p' |
     awk '{ print $1 - 1 }' | sort >"$work/idle/idle"
   acting_commands "$work/idle/commands" "$made" >"$work/idle/acting"
@@ -129,7 +133,7 @@ compare_scripts() {
   local made=$work/idle/places/made root=$work/idle/scripts-root number
   mkdir -p "$made"
   make_script_places "$made"
-  seq 40 | sed "s|.*|$made/d&|" | sed 's/^/run-parts /' | as_crontab "$made" | make_idle_root "$root" "$made"
+  seq 40 | sed "s|.*|$made/d&|" | sed 's/^/run-parts /' | as_crontab "$made" | make_idle_root "$root" "$made" "$made"
   "$program" machine scripts --root "$root" --utc 2>"$work/idle/scripts-told" </dev/null | cut -f 1,3 >"$work/idle/scripts"
   for ((number = 1; number <= 40; number++)); do
     sed -n "s|^system:$((number + 1))\t||p" "$work/idle/scripts" |

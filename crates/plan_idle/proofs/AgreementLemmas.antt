@@ -1,5 +1,5 @@
 -- What a command finds in a tree that has the same as another one at the known places.
-use Rattle.std.proofs.Common.{◌≡◌, ◌≢◌, ◌⊎◌, inl, inr, ℕ, zero, suc, Bool, true, false, not, ◌&&◌, cond, ◌==◌, if◌then◌else◌, bit_and, List, [], ◌∷◌, ◌++◌, codes, length, Option, Some, None, refl, ap, sym, subst, ◌∙◌, true≢false}
+use Rattle.std.proofs.Common.{◌≡◌, ◌≢◌, ◌⊎◌, inl, inr, ℕ, zero, suc, ◌≤◌, Bool, true, false, not, ◌&&◌, ◌||◌, cond, ◌==◌, if◌then◌else◌, bit_and, List, [], ◌∷◌, ◌++◌, codes, length, Option, Some, None, refl, ap, sym, subst, ◌∙◌, true≢false, arith}
 use Rattle.std.specs.List.{list_any}
 use Rattle.std.specs.Str.{byte, bytes_eq}
 use Rattle.plan_texts.specs.Text.{begins_with}
@@ -7,13 +7,13 @@ use Rattle.plan_shell.specs.declared.step.Property.{Property}
 use Rattle.plan_shell.specs.declared.step.Property.TheVariants as property
 use Rattle.plan_tree.specs.declared.links.End.{End}
 use Rattle.plan_tree.specs.declared.links.End.TheVariants as end
-use Rattle.plan_tree.specs.declared.links.Step.{Step}
-use Rattle.plan_tree.specs.declared.links.Step.TheVariants as step
 use Rattle.plan_tree.specs.declared.tree.Node.{Node}
 use Rattle.plan_tree.specs.declared.tree.Node.TheVariants as node
 use Rattle.plan_tree.specs.declared.tree.Status.{Status}
-use Rattle.plan_tree.specs.Links.{after_step, beyond_link, end_of, is_here, is_null, is_up, leads_to, most_links, null_path, step_by, step_of, walk}
-use Rattle.plan_tree.specs.Place.{child, names_of, parent}
+use Rattle.plan_tree.proofs.LeadsLemmas.{end_of_is_end}
+use Rattle.plan_tree.specs.Leads.{IsEnd, Leads, arrives, goes_in, goes_past, stops}
+use Rattle.plan_tree.specs.Links.{after_step, beyond_link, end_of, is_here, is_null, is_up, leads_to, most_links, step_by, step_of}
+use Rattle.plan_tree.specs.Place.{child, names_of}
 use Rattle.plan_tree.specs.Tree.{Held}
 use Rattle.plan_idle.specs.declared.answer.Answer.{Answer}
 use Rattle.plan_idle.specs.declared.answer.Answer.TheVariants.{Yes, No, Unknown, Acts}
@@ -28,71 +28,85 @@ use Rattle.plan_idle.proofs.RunLemmas.{fits, idle_runs_none, may_find, self_foun
 abbrev IsHidden : (known other : List ℕ → Node) → List ℕ → Type 0
 IsHidden known other place = (known place ≡ node.Unreadable) ⊎ (other place ≡ known place)
 
+choose :
+    {S : Type 0} (null here up : Bool) (a b c k o u : S) → (k ≡ u) ⊎ (o ≡ k) →
+    (cond null a (cond here b (cond up c k)) ≡ u) ⊎ (cond null a (cond here b (cond up c o)) ≡ cond null a (cond here b (cond up c k)))
+choose true here up a b c k o u is = inr refl
+choose false true up a b c k o u is = inr refl
+choose false false true a b c k o u is = inr refl
+choose false false false a b c k o u is = is
+
+by_node : {S : Type 0} (by : Node → S) (n n2 : Node) → (n ≡ node.Unreadable) ⊎ (n2 ≡ n) →
+    (by n ≡ by node.Unreadable) ⊎ (by n2 ≡ by n)
+by_node by n n2 (inl hidden) = inl (ap by hidden)
+by_node by n n2 (inr same) = inr (ap by same)
+
+-- the steps are the same, or what comes first can't be read
 step_same :
-    (null here up : Bool) (known other : Node) (dir name : List ℕ) (rest : List (List ℕ)) →
-    (known ≡ node.Unreadable) ⊎ (other ≡ known) →
-    let by : Node → Step = λ node. cond null (step.Ends (end.Found null_path)) (cond here (step.Enters dir) (cond up (step.Enters (parent dir))
-    (step_by node dir name rest))) in
-    (by known ≡ step.Ends end.Unknown) ⊎ (by other ≡ by known)
-step_same true here up known other dir name rest same = inr refl
-step_same false true up known other dir name rest same = inr refl
-step_same false false true known other dir name rest same = inr refl
-step_same false false false known other dir name rest (inl hidden) = inl (ap (λ node. step_by node dir name rest) hidden)
-step_same false false false known other dir name rest (inr same) = inr (ap (λ node. step_by node dir name rest) same)
+    (known other : List ℕ → Node) → ((place : List ℕ) → IsHidden known other place) → (dir name : List ℕ) (rest : List (List ℕ)) →
+    (step_of known dir name rest ≡ step_by node.Unreadable dir name rest) ⊎ (step_of other dir name rest ≡ step_of known dir name rest)
+step_same known other hidden dir name rest =
+    choose (is_null dir (name ∷ rest)) (is_here name) (is_up name) _ _ _
+    (step_by (known (child dir name)) dir name rest) (step_by (other (child dir name)) dir name rest) (step_by node.Unreadable dir name rest)
+    (by_node (λ n. step_by n dir name rest) (known (child dir name)) (other (child dir name)) (hidden (child dir name)))
+
+past_link :
+    (other : List ℕ → Node) (most : ℕ) (from : List ℕ) (names : List (List ℕ)) →
+    beyond_link other (suc most) from names ≡ leads_to other most from names
+unfolding beyond_link
+past_link other most from names = refl
+
+-- where names lead by the rules in one tree, they lead in the other
+led :
+    (known other : List ℕ → Node) → ((place : List ℕ) → IsHidden known other place) →
+    (most : ℕ) (dir : List ℕ) (names : List (List ℕ)) (links : ℕ) (e : End) →
+    Leads known dir names links e → e ≢ end.Unknown → links ≤ most → leads_to other most dir names ≡ e
+led known other hidden most d names links e (arrives dir) is few = refl
+led known other hidden most d names links e (goes_in dir name rest inside l f was more) is few =
+    elim (step_same known other hidden dir name rest) as (λ _. leads_to other most dir (name ∷ rest) ≡ f) [
+      | inl none ↦ absurd (let same = sym was ∙ none in cc)
+      | inr same ↦ ap (after_step (λ inside. leads_to other most inside rest) (λ from text. beyond_link other most from (names_of text ++ rest)))
+        (same ∙ was) ∙ led known other hidden most inside rest l f more is few
+    ]
+led known other hidden most d names links e (stops dir name rest f was) is few =
+    elim (step_same known other hidden dir name rest) as (λ _. leads_to other most dir (name ∷ rest) ≡ f) [
+      | inl none ↦ absurd (is (let same = sym was ∙ none in cc))
+      | inr same ↦ ap (after_step (λ inside. leads_to other most inside rest) (λ from text. beyond_link other most from (names_of text ++ rest)))
+        (same ∙ was)
+    ]
+led known other hidden zero d names links e (goes_past dir name rest from text l f was more) is few = absurd (omega arith)
+led known other hidden (suc most) d names links e (goes_past dir name rest from text l f was more) is few =
+    elim (step_same known other hidden dir name rest) as (λ _. leads_to other (suc most) dir (name ∷ rest) ≡ f) [
+      | inl none ↦ absurd (let same = sym was ∙ none in cc)
+      | inr same ↦ ap (after_step (λ inside. leads_to other (suc most) inside rest)
+        (λ from text. beyond_link other (suc most) from (names_of text ++ rest))) (same ∙ was)
+        ∙ past_link other most from (names_of text ++ rest)
+        ∙ led known other hidden most from (names_of text ++ rest) l f more is (omega arith)
+    ]
 
 -- an end is unknown, or the same
 abbrev IsSameEnd : (known other : End) → Type 0
 IsSameEnd known other = (known ≡ end.Unknown) ⊎ (other ≡ known)
 
-after_same :
-    (inside inside2 : List ℕ → End) (beyond beyond2 : List ℕ → List ℕ → End) (s : Step) →
-    ((dir : List ℕ) → IsSameEnd (inside dir) (inside2 dir)) →
-    ((from text : List ℕ) → IsSameEnd (beyond from text) (beyond2 from text)) →
-    IsSameEnd (after_step inside beyond s) (after_step inside2 beyond2 s)
-after_same inside inside2 beyond beyond2 (step.Enters dir) in_same by_same = in_same dir
-after_same inside inside2 beyond beyond2 (step.Ends e) in_same by_same = inr refl
-after_same inside inside2 beyond beyond2 (step.Replaces from text) in_same by_same = by_same from text
+end_or : (e : End) → (e ≡ end.Unknown) ⊎ (e ≢ end.Unknown)
+end_or (end.Found place) = inr (λ is. cc)
+end_or end.Nothing = inr (λ is. cc)
+end_or end.Unknown = inl refl
 
-steps_same :
-    (inside inside2 : List ℕ → End) (beyond beyond2 : List ℕ → List ℕ → End) (s s2 : Step) →
-    (s ≡ step.Ends end.Unknown) ⊎ (s2 ≡ s) →
-    ((dir : List ℕ) → IsSameEnd (inside dir) (inside2 dir)) →
-    ((from text : List ℕ) → IsSameEnd (beyond from text) (beyond2 from text)) →
-    IsSameEnd (after_step inside beyond s) (after_step inside2 beyond2 s2)
-steps_same inside inside2 beyond beyond2 s s2 (inl none) in_same by_same = inl (ap (after_step inside beyond) none)
-steps_same inside inside2 beyond beyond2 s s2 (inr same) in_same by_same =
-    let P : Step → Type 0 = λ s2. IsSameEnd (after_step inside beyond s) (after_step inside2 beyond2 s2) in
-    subst P (sym same) (after_same inside inside2 beyond beyond2 s in_same by_same)
-
-walk_same :
-    (known other : List ℕ → Node) → ((place : List ℕ) → IsHidden known other place) →
-    (beyond beyond2 : List ℕ → List (List ℕ) → End) →
-    ((from : List ℕ) (names : List (List ℕ)) → IsSameEnd (beyond from names) (beyond2 from names)) →
-    (dir : List ℕ) (names : List (List ℕ)) → IsSameEnd (walk known beyond dir names) (walk other beyond2 dir names)
-walk_same known other hidden beyond beyond2 by_same dir [] = inr refl
-walk_same known other hidden beyond beyond2 by_same dir (name ∷ rest) =
-    steps_same (λ inside. walk known beyond inside rest) (λ inside. walk other beyond2 inside rest)
-    (λ from text. beyond from (names_of text ++ rest)) (λ from text. beyond2 from (names_of text ++ rest))
-    (step_of known dir name rest) (step_of other dir name rest)
-    (step_same (is_null dir (name ∷ rest)) (is_here name) (is_up name) (known (child dir name)) (other (child dir name)) dir name rest
-    (hidden (child dir name)))
-    (λ inside. walk_same known other hidden beyond beyond2 by_same inside rest)
-    (λ from text. by_same from (names_of text ++ rest))
-
-beyond_same :
-    (known other : List ℕ → Node) → ((place : List ℕ) → IsHidden known other place) →
-    (links : ℕ) (from : List ℕ) (names : List (List ℕ)) → IsSameEnd (beyond_link known links from names) (beyond_link other links from names)
-unfolding beyond_link
-beyond_same known other hidden zero from names = inl refl
-beyond_same known other hidden (suc links) from names =
-    walk_same known other hidden (beyond_link known links) (beyond_link other links) (beyond_same known other hidden links) from names
+leads_by :
+    (known other : List ℕ → Node) → ((place : List ℕ) → IsHidden known other place) → (path : List ℕ) (e : End) →
+    (e ≡ end.Unknown) ⊎ (e ≢ end.Unknown) → IsEnd known path e → IsSameEnd e (end_of other path)
+leads_by known other hidden path e (inl none) is = inl none
+leads_by known other hidden path e (inr some) (inl rules) =
+    inr (led known other hidden most_links [] (names_of path) rules.0 e rules.2 some rules.1)
+leads_by known other hidden path e (inr some) (inr over) = absurd (some over.0)
 
 -- a path leads to the same, or where it leads is unknown
-pub leads_same :
-    (known other : List ℕ → Node) → ((place : List ℕ) → IsHidden known other place) →
-    (links : ℕ) (path : List ℕ) → IsSameEnd (leads_to known links [] (names_of path)) (leads_to other links [] (names_of path))
-leads_same known other hidden links path =
-    walk_same known other hidden (beyond_link known links) (beyond_link other links) (beyond_same known other hidden links) [] (names_of path)
+leads_same :
+    (known other : List ℕ → Node) → ((place : List ℕ) → IsHidden known other place) → (path : List ℕ) →
+    IsSameEnd (end_of known path) (end_of other path)
+leads_same known other hidden path =
+    leads_by known other hidden path (end_of known path) (end_or (end_of known path)) (end_of_is_end known path)
 
 -- ---- a known place
 
@@ -188,7 +202,7 @@ ends_same :
     IsSameEnd (end_of (known_at (places_of held) is_root only_usr held) path) (end_of other.node path)
 ends_same is_root only_usr held other agrees path =
     leads_same (known_at (places_of held) is_root only_usr held) other.node
-    (λ place. hidden_at is_root only_usr held other place (known_place is_root only_usr held other agrees place)) most_links path
+    (λ place. hidden_at is_root only_usr held other place (known_place is_root only_usr held other agrees place)) path
 
 -- ---- answers for paths
 

@@ -137,17 +137,17 @@ answer_among held name found (dir ∷ dirs) = answer_among held name (or_answer 
 abbrev pub dirs_of : List ℕ → List (List ℕ)
 dirs_of path = slice_split (λ b. b == byte ":") path
 
--- a word is among the words of a text, with a blank between them
+-- a word is among the words of a text, with a colon between them
 unfoldable pub is_among : (words : List ℕ) → (name : List ℕ) → Bool
-is_among words name = list_any (bytes_eq name) (slice_split (λ b. b == byte " ") words)
+is_among words name = list_any (bytes_eq name) (dirs_of words)
 
 -- the reserved words and builtins that both dash(1) and bash(1) have
 abbrev pub shared_words : List ℕ
-shared_words = codes ". alias bg break case cd command continue do done echo elif else esac eval exec exit export false fg fi for getopts hash if in jobs kill local printf pwd read readonly return set shift test then times trap true type ulimit umask unalias unset until wait while"
+shared_words = codes ".:alias:bg:break:case:cd:command:continue:do:done:echo:elif:else:esac:eval:exec:exit:export:false:fg:fi:for:getopts:hash:if:in:jobs:kill:local:printf:pwd:read:readonly:return:set:shift:test:then:times:trap:true:type:ulimit:umask:unalias:unset:until:wait:while"
 
 -- those of bash alone; of fc dash(1) speaks, but Debian's has it not
 abbrev pub bash_words : List ℕ
-bash_words = codes "bind builtin caller compgen complete compopt coproc declare dirs disown enable fc function help history let logout mapfile popd pushd readarray select shopt source suspend time typeset"
+bash_words = codes "bind:builtin:caller:compgen:complete:compopt:coproc:declare:dirs:disown:enable:fc:function:help:history:let:logout:mapfile:popd:pushd:readarray:select:shopt:source:suspend:time:typeset"
 
 -- those of dash alone
 abbrev pub dash_words : List ℕ

@@ -36,7 +36,7 @@ is_within place dir = starts_with nat_eq place dir && goes_below dir (drop (leng
 
 -- the machine runs: proc/uptime begins with a number (proc(5))
 abbrev pub runs : Held → Bool
-runs held = option_map_or (begins_with is_ascii_digit) false (bytes_of held (codes "proc/uptime") 1)
+runs held = option_map_or (begins_with is_ascii_digit) (bytes_of held (codes "proc/uptime") 1) false
 
 -- the mount point of a line, which is its second field; a line that begins with `#` is a comment (fstab(5))
 abbrev pub point_after : Option (List ℕ × List ℕ) → Option (List ℕ)

@@ -146,7 +146,7 @@ fn mounts_of<T: Tree>(alloc: Global, tree: &T) -> Result<Vec<Place>, AllocError>
 
 // Returns whether the machine runs.
 fn runs<T: Tree>(alloc: Global, tree: &T) -> Result<bool, AllocError>
-    ensures { T.is_known ≡ true → IfOk result (λ runs. runs ≡ runs (T.held tree.now)) }
+    ensures { T.is_known ≡ true → IfOk result (λ is. is ≡ runs (T.held tree.now)) }
 {
     match bytes_of(alloc, tree, "proc/uptime", 1)? {
         Some(first) => Ok(matches!(first.as_slice(), [first, ..] if first.is_ascii_digit())),

@@ -31,11 +31,11 @@ impl<T: Tree> KnownTree<'_, T> {
     fn is_known(&self, place: &str) -> bool
         ensures { result ≡ is_known self.now.places.now self.now.is_root self.now.only_usr place.now }
     {
-        let root = self.places.root;
-        is_roots(owners_count(root), root)
-            && is_open(self.is_root, root)
-            && is_within_any(place, self.places.tops.as_slice())
-            && !is_within_any(place, self.places.mounts.as_slice())
+        let places = self.places;
+        is_roots(owners_count(places.root), places.root)
+            && is_open(self.is_root, places.root)
+            && is_within_any(place, places.tops.as_slice())
+            && !is_within_any(place, places.mounts.as_slice())
             && (!self.only_usr || is_within(place.as_bytes(), b"usr"))
     }
 
@@ -43,7 +43,8 @@ impl<T: Tree> KnownTree<'_, T> {
     fn known_node(&self, node: Node, status: Option<Status>) -> Node
         ensures { result ≡ known_node self.now.places.now self.now.is_root node status }
     {
-        let is_roots = is_roots(owners_count(self.places.root), status);
+        let places = self.places;
+        let is_roots = is_roots(owners_count(places.root), status);
         match node {
             Node::Missing | Node::Unreadable | Node::Link(_) => node,
             Node::Directory if is_roots && is_open(self.is_root, status) => node,

@@ -28,7 +28,7 @@ pub fn scripts_run<T: Tree>(
     asker: Asker<'_>,
 ) -> Result<Vec<Text>, AllocError>
     ensures { T.is_known ≡ true → IfOk result (λ scripts.
-        scripts.items ≡ scripts_run (T.held tree.now) places.now asker (tree_of list.now)) }
+        scripts.items ≡ scripts_run (T.held tree.now) places.now asker.entry (tree_of list.now)) }
 {
     let looks = TreeLooks::new(tree, places, asker);
     let gathered = gathered_of(alloc, list.steps(), &looks)?;

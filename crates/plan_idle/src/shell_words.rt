@@ -1,16 +1,19 @@
 //! The reserved words and the builtins of shells.
 
-ghost use Rattle.std.specs.Prelude.{◌≡◌, IfOk};
+ghost use Rattle.std.specs.Prelude.{◌≡◌, IfOk, map};
+ghost use Rattle.std.specs.List.{list_any};
+ghost use Rattle.std.specs.Str.{bytes_eq};
 ghost use Rattle.plan_idle.specs.Answers.{is_among, word_answer};
 
 use crate::answer::Answer;
+use crate::tree_looks::dirs_of;
 use std::alloc::{AllocError, Global};
 
 // The words that both dash and bash have (dash(1), bash(1)).
-const SHARED_WORDS: &str = ". alias bg break case cd command continue do done echo elif else esac eval exec exit export false fg fi for getopts hash if in jobs kill local printf pwd read readonly return set shift test then times trap true type ulimit umask unalias unset until wait while";
+const SHARED_WORDS: &str = ".:alias:bg:break:case:cd:command:continue:do:done:echo:elif:else:esac:eval:exec:exit:export:false:fg:fi:for:getopts:hash:if:in:jobs:kill:local:printf:pwd:read:readonly:return:set:shift:test:then:times:trap:true:type:ulimit:umask:unalias:unset:until:wait:while";
 
 // The words of bash alone. dash(1) speaks of fc, but Debian's dash doesn't have it.
-const BASH_WORDS: &str = "bind builtin caller compgen complete compopt coproc declare dirs disown enable fc function help history let logout mapfile popd pushd readarray select shopt source suspend time typeset";
+const BASH_WORDS: &str = "bind:builtin:caller:compgen:complete:compopt:coproc:declare:dirs:disown:enable:fc:function:help:history:let:logout:mapfile:popd:pushd:readarray:select:shopt:source:suspend:time:typeset";
 
 // The words of dash alone.
 const DASH_WORDS: &str = "chdir";
@@ -35,15 +38,23 @@ pub(crate) fn word_answer(alloc: Global, is_bash: bool, name: &str) -> Result<An
     Ok(Answer::No)
 }
 
-// Returns whether a word is among the words of a text, with a blank between them.
+// Returns whether a word is among the words of a text, with a colon between them.
+#[tactic(auto, unfolding(crate::specs::Answers::is_among))]
 fn is_among(alloc: Global, words: &str, name: &str) -> Result<bool, AllocError>
     ensures { IfOk result (λ is. is ≡ is_among words.now name.now) }
 {
-    let words: Vec<&str> = words.split(' ').collect(alloc)?;
-    for word in words.as_slice() {
-        if *word == name {
-            return Ok(true);
+    let words = dirs_of(alloc, words)?;
+    Ok(has_word(words.as_slice(), name))
+}
+
+// Returns whether a word is one of some words.
+fn has_word(words: &[&str], name: &str) -> bool
+    ensures { result ≡ list_any (bytes_eq name.now) (map (λ word. word.now) words.now) }
+{
+    for word in words {
+        if name == *word {
+            return true;
         }
     }
-    Ok(false)
+    false
 }

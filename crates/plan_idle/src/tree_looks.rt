@@ -17,7 +17,7 @@ use std::alloc::{AllocError, Global};
 use std::marker::Model;
 
 /// Who looks.
-#[derive(Clone, Copy, Debug)]
+#[derive(Debug, Drop)]
 pub struct Asker<'a> {
     /// Whether it is root.
     pub is_root: bool,
@@ -46,7 +46,7 @@ pub struct TreeLooks<'a, T: Tree> {
 impl<'a, T: Tree> TreeLooks<'a, T> {
     /// Returns a tree in which the commands of a user look for files, if what is at these places of it is known.
     pub fn new(tree: &'a T, places: &'a KnownPlaces, asker: Asker<'a>) -> TreeLooks<'a, T>
-        ensures { ⟦<TreeLooks<'a, T> as Look>⟧.looks result ≡ answer_at (T.held tree.now) places.now asker }
+        ensures { ⟦<TreeLooks<'a, T> as Look>⟧.looks result ≡ answer_at (T.held tree.now) places.now asker.entry }
     {
         TreeLooks {
             tree,
@@ -71,9 +71,7 @@ impl<T: Tree> Look for TreeLooks<'_, T> {
             only_usr: only_usr(property),
         };
         match property {
-            Property::Command => {
-                command_answer(alloc, &known, self.asker, subject)
-            }
+            Property::Command => command_answer(alloc, &known, &self.asker, subject),
             Property::NoScripts => no_scripts_answer(alloc, &known, subject),
             property if subject == BOOTED_PATH => booted_answer(alloc, self.tree, property),
             property => path_answer(alloc, &known, property, subject),
@@ -92,11 +90,11 @@ fn only_usr(property: Property) -> bool
 fn command_answer<T: Tree>(
     alloc: Global,
     tree: &T,
-    asker: Asker<'_>,
+    asker: &Asker<'_>,
     name: &str,
 ) -> Result<Answer, AllocError>
     ensures { T.is_known ≡ true → IfOk result (λ answer.
-        answer ≡ command_by (T.held tree.now) name.now asker.path (word_answer asker.is_bash name.now)) }
+        answer ≡ command_by (T.held tree.now) name.now asker.now.path (word_answer asker.now.is_bash name.now)) }
 {
     match word_answer(alloc, asker.is_bash, name)? {
         Answer::No => answer_by_path(alloc, tree, name, asker.path),
@@ -118,8 +116,8 @@ fn answer_by_path<T: Tree>(
     answer_among(alloc, tree, name, dirs.as_slice())
 }
 
-// Returns the directories of PATH.
-fn dirs_of(alloc: Global, path: &str) -> Result<Vec<&str>, AllocError>
+/// Returns the directories of PATH: the parts of a text between its colons.
+pub(crate) fn dirs_of(alloc: Global, path: &str) -> Result<Vec<&str>, AllocError>
     ensures { IfOk result (λ dirs. map (λ dir. dir.now) dirs.items ≡ dirs_of path.now) }
 {
     let dirs = path.split(':').collect(alloc)?;

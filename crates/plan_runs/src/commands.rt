@@ -28,11 +28,11 @@ pub(crate) struct LineCommand {
 pub(crate) fn line_command(
     alloc: Global,
     kind: Kind,
-    settings: Settings<'_>,
+    settings: &Settings<'_>,
     number: u32,
     line: &str,
 ) -> Result<Option<LineCommand>, AllocError>
-    ensures { IfOk result (λ command. command ≡ line_command kind settings number line.now) }
+    ensures { IfOk result (λ command. command ≡ line_command kind settings.now number line.now) }
 {
     if !settings.is_read() {
         return Ok(None);

@@ -108,8 +108,8 @@ fn active_lines<T: Tree>(
     let mut settings = Settings::new(owner);
     let mut number = 1;
     for line in lines {
-        let command = line_command(alloc, kind, settings, number, line)?;
-        let why = command_why(alloc, tree, places, settings, command)?;
+        let command = line_command(alloc, kind, &settings, number, line)?;
+        let why = command_why(alloc, tree, places, &settings, command)?;
         add_line(&mut text, &why, line)?;
         add_idle(&mut idle, number, why)?;
         settings = settings.after(line);
@@ -123,11 +123,11 @@ fn command_why<T: Tree>(
     alloc: Global,
     tree: &T,
     places: &KnownPlaces,
-    settings: Settings<'_>,
+    settings: &Settings<'_>,
     command: Option<LineCommand>,
 ) -> Result<Option<Text>, AllocError>
     ensures { T.is_known ≡ true → places.now ≡ places_of (T.held tree.now) → IfOk result (λ why.
-        why ≡ command_why (T.held tree.now) settings command) }
+        why ≡ command_why (T.held tree.now) settings.now command) }
 {
     match command {
         Some(command) => {

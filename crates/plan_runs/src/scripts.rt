@@ -78,8 +78,8 @@ fn scripts_from<T: Tree>(
     let mut settings = Settings::new(owner);
     let mut number = 1;
     for line in lines {
-        let command = line_command(alloc, kind, settings, number, line)?;
-        let scripts = command_scripts(alloc, tree, places, settings, command)?;
+        let command = line_command(alloc, kind, &settings, number, line)?;
+        let scripts = command_scripts(alloc, tree, places, &settings, command)?;
         add_scripts(&mut found, number, scripts)?;
         settings = settings.after(line);
         number = number.saturating_add(1);
@@ -92,11 +92,11 @@ fn command_scripts<T: Tree>(
     alloc: Global,
     tree: &T,
     places: &KnownPlaces,
-    settings: Settings<'_>,
+    settings: &Settings<'_>,
     command: Option<LineCommand>,
 ) -> Result<Vec<Text>, AllocError>
     ensures { T.is_known ≡ true → places.now ≡ places_of (T.held tree.now) → IfOk result (λ scripts.
-        scripts.items ≡ command_scripts (T.held tree.now) settings command) }
+        scripts.items ≡ command_scripts (T.held tree.now) settings.now command) }
 {
     match command {
         Some(command) => {

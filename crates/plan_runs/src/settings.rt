@@ -14,7 +14,7 @@ use std::marker::Model;
 const DEFAULT_PATH: &str = "/usr/bin:/bin";
 
 /// The settings that are in force at a line.
-#[derive(Clone, Copy)]
+#[derive(Drop)]
 pub(crate) struct Settings<'a> {
     // Whether root owns the crontab.
     is_roots: bool,
@@ -58,7 +58,7 @@ impl<'a> Settings<'a> {
 
     /// Returns those below a line.
     pub(crate) fn after(self, line: &'a str) -> Settings<'a>
-        ensures { result ≡ settings_after self line.now }
+        ensures { result ≡ settings_after self.entry line.now }
     {
         let Some((name, value)) = setting_of(line) else {
             return self;
@@ -77,22 +77,22 @@ impl<'a> Settings<'a> {
     }
 
     /// Returns whether commands are read.
-    pub(crate) fn is_read(self) -> bool
-        ensures { result ≡ is_read self }
+    pub(crate) fn is_read(&self) -> bool
+        ensures { result ≡ is_read self.now }
     {
         self.is_shell_read && !(self.is_bash && self.has_start_file)
     }
 
     /// Returns whether root owns the crontab.
-    pub(crate) fn is_roots(self) -> bool
-        ensures { result ≡ self.is_roots }
+    pub(crate) fn is_roots(&self) -> bool
+        ensures { result ≡ self.now.is_roots }
     {
         self.is_roots
     }
 
     /// Returns who looks, if root or another user runs a command.
-    pub(crate) fn asker(self, is_root: bool) -> Asker<'a>
-        ensures { result ≡ asker_of self is_root }
+    pub(crate) fn asker(&self, is_root: bool) -> Asker<'a>
+        ensures { result ≡ asker_of self.now is_root }
     {
         Asker {
             is_root,
