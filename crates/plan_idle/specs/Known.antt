@@ -2,7 +2,7 @@
 use Rattle.std.specs.Prelude.{ℕ, ◌+◌, Bool, true, false, not, ◌&&◌, ◌||◌, ◌==◌, nat_eq, if◌then◌else◌, bit_and, List, [], ◌∷◌, drop, filter, length, take, codes, Option, Some, None}
 use Rattle.std.specs.Char.{is_ascii_digit}
 use Rattle.std.specs.List.{filter_map, list_any, starts_with}
-use Rattle.std.specs.Option.{option_map, option_map_or}
+use Rattle.std.specs.Option.{option_map}
 use Rattle.std.specs.Str.{byte, is_utf8}
 use Rattle.plan_texts.specs.Limits.{most_bytes}
 use Rattle.plan_texts.specs.Lines.{cut_word, is_too_large, lines}
@@ -34,9 +34,13 @@ is_within place dir = starts_with nat_eq place dir && goes_below dir (drop (leng
 
 -- ---- mount points
 
+abbrev pub begins_with_digit : Option (List ℕ) → Bool
+begins_with_digit None = false
+begins_with_digit (Some text) = begins_with is_ascii_digit text
+
 -- the machine runs: proc/uptime begins with a number (proc(5))
 abbrev pub runs : Held → Bool
-runs held = option_map_or (begins_with is_ascii_digit) (bytes_of held (codes "proc/uptime") 1) false
+runs held = begins_with_digit (bytes_of held (codes "proc/uptime") 1)
 
 -- the mount point of a line, which is its second field; a line that begins with `#` is a comment (fstab(5))
 abbrev pub point_after : Option (List ℕ × List ℕ) → Option (List ℕ)
@@ -69,10 +73,13 @@ abbrev pub mount_on : Held → (line : List ℕ) → Option (List ℕ)
 mount_on held line = place_of_point held (mount_point (cut_word line))
 
 -- the mount points of the text of etc/fstab; all places are at one if it can't be read as a text
+abbrev pub text_mounts : Held → (text : List ℕ) → List (List ℕ)
+text_mounts held text =
+    if is_too_large text then [] ∷ [] else if is_utf8 text then filter_map (mount_on held) (lines text) else [] ∷ []
+
 abbrev pub mounts_in : Held → Option (List ℕ) → List (List ℕ)
 mounts_in held None = [] ∷ []
-mounts_in held (Some text) =
-    if is_too_large text then [] ∷ [] else if is_utf8 text then filter_map (mount_on held) (lines text) else [] ∷ []
+mounts_in held (Some text) = text_mounts held text
 
 abbrev pub mounts_by : Held → End → List (List ℕ)
 mounts_by held end.Nothing = []

@@ -2,15 +2,20 @@
 
 ghost use Rattle.std.specs.Prelude.{◌≡◌, true, [], ◌∷◌, IfOk, filter, map, option_map};
 ghost use Rattle.std.specs.List.{filter_map, list_any};
+ghost use Rattle.std.specs.Char.{is_ascii_digit};
 ghost use Rattle.plan_texts.specs.Lines.{cut_word};
-ghost use Rattle.plan_idle.specs.Known.{bytes_of, has_names, is_within, lead_of, mount_on, mount_point, mounts_in, mounts_of, places_of, runs};
+ghost use Rattle.plan_texts.specs.Text.{begins_with};
+ghost use Rattle.plan_idle.specs.Known.{bytes_of, has_names, is_within, lead_of, mount_on, mount_point, mounts_by, mounts_in, mounts_of, places_of, begins_with_digit, text_mounts};
 
 use crate::filled::Filled;
 use plan_texts::begins_with;
-use plan_texts::lines::{MOST_BYTES, cut_word, is_too_large, lines};
+use plan_texts::lines::{cut_word, is_too_large, lines};
 use plan_tree::{End, Place, Status, Tree, contents, follow};
 use std::alloc::{AllocError, Global};
 use std::marker::Model;
+
+// How much of etc/fstab is read: more than a text may have.
+const MOST_READ: u64 = 1_048_577;
 
 // The directories of the system.
 const TOPS: [&str; 7] = ["usr", "bin", "sbin", "lib", "lib64", "etc", "opt"];
@@ -132,25 +137,40 @@ fn has_names<T: Tree>(alloc: Global, tree: &T, path: &str) -> Result<bool, Alloc
 fn mounts_of<T: Tree>(alloc: Global, tree: &T) -> Result<Vec<Place>, AllocError>
     ensures { T.is_known ≡ true → IfOk result (λ mounts. mounts.items ≡ mounts_of (T.held tree.now)) }
 {
-    if runs(alloc, tree)? {
+    let uptime = bytes_of(alloc, tree, "proc/uptime", 1)?;
+    if begins_with_digit(uptime) {
         return Ok(Vec::new(alloc));
     }
-    match lead_of(alloc, tree, "etc/fstab")? {
-        End::Nothing => Ok(Vec::new(alloc)),
-        End::Found(_) | End::Unknown => {
-            let text = bytes_of(alloc, tree, "etc/fstab", MOST_BYTES as u64 + 1)?;
-            mounts_in(alloc, tree, text)
-        }
+    let end = lead_of(alloc, tree, "etc/fstab")?;
+    mounts_by(alloc, tree, &end)
+}
+
+// Returns whether there is a text that begins with a digit.
+fn begins_with_digit(text: Option<Vec<u8>>) -> bool
+    ensures { result ≡ begins_with_digit (option_map (λ text. text.items) text) }
+{
+    match text {
+        None => false,
+        Some(text) => has_digit_first(text.as_slice()),
     }
 }
 
-// Returns whether the machine runs.
-fn runs<T: Tree>(alloc: Global, tree: &T) -> Result<bool, AllocError>
-    ensures { T.is_known ≡ true → IfOk result (λ is. is ≡ runs (T.held tree.now)) }
+fn has_digit_first(text: &[u8]) -> bool
+    ensures { result ≡ begins_with is_ascii_digit text.now }
 {
-    match bytes_of(alloc, tree, "proc/uptime", 1)? {
-        Some(first) => Ok(matches!(first.as_slice(), [first, ..] if first.is_ascii_digit())),
-        None => Ok(false),
+    matches!(text, [first, ..] if first.is_ascii_digit())
+}
+
+// Returns the mount points of etc/fstab, by where it leads.
+fn mounts_by<T: Tree>(alloc: Global, tree: &T, end: &End) -> Result<Vec<Place>, AllocError>
+    ensures { T.is_known ≡ true → IfOk result (λ mounts. mounts.items ≡ mounts_by (T.held tree.now) end.now) }
+{
+    match end {
+        End::Nothing => Ok(Vec::new(alloc)),
+        End::Found(_) | End::Unknown => {
+            let text = bytes_of(alloc, tree, "etc/fstab", MOST_READ)?;
+            mounts_in(alloc, tree, text)
+        }
     }
 }
 
@@ -163,13 +183,20 @@ fn mounts_in<T: Tree>(
     ensures { T.is_known ≡ true → IfOk result (λ mounts.
         mounts.items ≡ mounts_in (T.held tree.now) (option_map (λ text. text.items) text)) }
 {
-    let Some(text) = text else {
-        return everywhere(alloc);
-    };
-    if is_too_large(text.as_slice()) {
+    match text {
+        None => everywhere(alloc),
+        Some(text) => text_mounts(alloc, tree, text.as_slice()),
+    }
+}
+
+#[tactic(auto, using(crate::proofs::KnownLemmas::mounts_of_text, crate::proofs::KnownLemmas::mounts_of_other))]
+fn text_mounts<T: Tree>(alloc: Global, tree: &T, text: &[u8]) -> Result<Vec<Place>, AllocError>
+    ensures { T.is_known ≡ true → IfOk result (λ mounts. mounts.items ≡ text_mounts (T.held tree.now) text.now) }
+{
+    if is_too_large(text) {
         return everywhere(alloc);
     }
-    match str::from_utf8(text.as_slice()) {
+    match str::from_utf8(text) {
         Ok(text) => {
             let lines = lines(alloc, text)?;
             mounts_on(alloc, tree, lines.as_slice())
