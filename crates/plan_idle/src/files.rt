@@ -1,7 +1,7 @@
 //! What a command finds where it looks for a file in a tree.
 
 ghost use Rattle.std.specs.Prelude.{◌≡◌, true, IfOk};
-ghost use Rattle.plan_idle.specs.Answers.{answer_of, booted_answer, directory_answer, directory_if, end_answer, executable_answer, file_answer, full_answer, init_answer, is_systemd, mode_answer, node_answer, path_answer, program_answer};
+ghost use Rattle.plan_idle.specs.Answers.{answer_of, booted_answer, booted_by, directory_answer, directory_if, end_answer, executable_answer, file_answer, full_answer, init_answer, is_systemd, mode_answer, node_answer, path_answer, program_answer};
 
 use crate::answer::Answer;
 use crate::known::lead_of;
@@ -96,11 +96,24 @@ pub(crate) fn booted_answer<T: Tree>(
 ) -> Result<Answer, AllocError>
     ensures { T.is_known ≡ true → IfOk result (λ answer. answer ≡ booted_answer (T.held tree.now) property) }
 {
-    match lead_of(alloc, tree, BOOTED_PATH)? {
+    let end = lead_of(alloc, tree, BOOTED_PATH)?;
+    booted_by(alloc, tree, property, end)
+}
+
+// Returns the same, by where run/systemd/system leads.
+fn booted_by<T: Tree>(
+    alloc: Global,
+    tree: &T,
+    property: Property,
+    end: End,
+) -> Result<Answer, AllocError>
+    ensures { T.is_known ≡ true → IfOk result (λ answer. answer ≡ booted_by (T.held tree.now) property end) }
+{
+    match end {
         End::Found(place) => place_answer(alloc, tree, property, place.as_str()),
         End::Nothing => {
-            let init = init_answer(lead_of(alloc, tree, "sbin/init")?);
-            Ok(directory_if(property, init))
+            let init = lead_of(alloc, tree, "sbin/init")?;
+            Ok(directory_if(property, init_answer(init)))
         }
         End::Unknown => Ok(Answer::Unknown),
     }
