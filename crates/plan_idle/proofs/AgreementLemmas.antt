@@ -1,5 +1,5 @@
 -- What a command finds in a tree that has the same as another one at the known places.
-use Rattle.std.proofs.Common.{◌≡◌, ◌≢◌, ◌⊎◌, inl, inr, ℕ, zero, suc, ◌≤◌, Bool, true, false, not, ◌&&◌, ◌||◌, cond, ◌==◌, if◌then◌else◌, bit_and, List, [], ◌∷◌, ◌++◌, codes, length, Option, Some, None, refl, ap, sym, subst, ◌∙◌, true≢false, arith}
+use Rattle.std.proofs.Common.{◌≡◌, ◌≢◌, ◌⊎◌, inl, inr, ℕ, zero, suc, ◌≤◌, Bool, true, false, not, ◌&&◌, ◌||◌, cond, ◌==◌, bit_and, List, [], ◌∷◌, ◌++◌, codes, length, Option, Some, None, refl, ap, sym, ◌∙◌, true≢false, arith}
 use Rattle.std.specs.List.{list_any}
 use Rattle.std.specs.Str.{byte, bytes_eq}
 use Rattle.plan_texts.specs.Text.{begins_with}
@@ -66,22 +66,22 @@ led known other hidden most d names links e (goes_in dir name rest inside l f wa
     elim (step_same known other hidden dir name rest) as (λ _. leads_to other most dir (name ∷ rest) ≡ f) [
       | inl none ↦ absurd (let same = sym was ∙ none in cc)
       | inr same ↦ ap (after_step (λ inside. leads_to other most inside rest) (λ from text. beyond_link other most from (names_of text ++ rest)))
-        (same ∙ was) ∙ led known other hidden most inside rest l f more is few
+          (same ∙ was) ∙ led known other hidden most inside rest l f more is few
     ]
 led known other hidden most d names links e (stops dir name rest f was) is few =
     elim (step_same known other hidden dir name rest) as (λ _. leads_to other most dir (name ∷ rest) ≡ f) [
       | inl none ↦ absurd (is (let same = sym was ∙ none in cc))
       | inr same ↦ ap (after_step (λ inside. leads_to other most inside rest) (λ from text. beyond_link other most from (names_of text ++ rest)))
-        (same ∙ was)
+          (same ∙ was)
     ]
 led known other hidden zero d names links e (goes_past dir name rest from text l f was more) is few = absurd (omega arith)
 led known other hidden (suc most) d names links e (goes_past dir name rest from text l f was more) is few =
     elim (step_same known other hidden dir name rest) as (λ _. leads_to other (suc most) dir (name ∷ rest) ≡ f) [
       | inl none ↦ absurd (let same = sym was ∙ none in cc)
       | inr same ↦ ap (after_step (λ inside. leads_to other (suc most) inside rest)
-        (λ from text. beyond_link other (suc most) from (names_of text ++ rest))) (same ∙ was)
-        ∙ past_link other most from (names_of text ++ rest)
-        ∙ led known other hidden most from (names_of text ++ rest) l f more is (omega arith)
+          (λ from text. beyond_link other (suc most) from (names_of text ++ rest))) (same ∙ was)
+          ∙ past_link other most from (names_of text ++ rest)
+          ∙ led known other hidden most from (names_of text ++ rest) l f more is (omega arith)
     ]
 
 -- an end is unknown, or the same

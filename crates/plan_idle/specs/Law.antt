@@ -1,16 +1,14 @@
 -- An idle command runs nothing that has an effect, in no tree that has the same at the known places (agenda).
-use Rattle.std.specs.Prelude.{◌≡◌, ◌≢◌, ℕ, Bool, true, false, if◌then◌else◌, List, Option}
+use Rattle.std.specs.Prelude.{◌≡◌, ◌≢◌, ℕ, Bool, false, if◌then◌else◌, List}
 use Rattle.std.specs.Str.{bytes_eq}
 use Rattle.plan_shell.specs.declared.step.Property.{Property}
 use Rattle.plan_shell.specs.declared.step.Property.TheVariants as property
 use Rattle.plan_shell.specs.Tree.{Shell}
-use Rattle.plan_tree.specs.declared.tree.Node.{Node}
 use Rattle.plan_tree.specs.declared.tree.Node.TheVariants as node
-use Rattle.plan_tree.specs.declared.tree.Status.{Status}
 use Rattle.plan_tree.specs.Links.{end_of}
 use Rattle.plan_tree.specs.Tree.{Held}
 use Rattle.plan_idle.specs.Answers.{Asker, answer_at, booted_answer, booted_path, command_by, no_scripts_answer, path_answer, word_answer}
-use Rattle.plan_idle.specs.Known.{Places, known_at, places_of, seen_by}
+use Rattle.plan_idle.specs.Known.{known_at, places_of, seen_by}
 use Rattle.plan_idle.specs.Outcomes.{outcomes}
 use Rattle.plan_idle.specs.Run.{Looks, run}
 

@@ -10,7 +10,9 @@ use std::alloc::{AllocError, Global};
 // The execute bits of a mode, of its owner, its group and others; its read bits; and the write bits of group and others
 // (inode(7)).
 const EXECUTE: u32 = 0o111;
+
 const READ: u32 = 0o444;
+
 const OTHERS_WRITE: u32 = 0o022;
 
 // A tree in which all is unreadable that isn't at a known place. So nothing but known places decides what is found in it.

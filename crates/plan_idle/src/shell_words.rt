@@ -10,10 +10,12 @@ use crate::tree_looks::dirs_of;
 use std::alloc::{AllocError, Global};
 
 // The words that both dash and bash have (dash(1), bash(1)).
-const SHARED_WORDS: &str = ".:alias:bg:break:case:cd:command:continue:do:done:echo:elif:else:esac:eval:exec:exit:export:false:fg:fi:for:getopts:hash:if:in:jobs:kill:local:printf:pwd:read:readonly:return:set:shift:test:then:times:trap:true:type:ulimit:umask:unalias:unset:until:wait:while";
+const SHARED_WORDS: &str =
+    ".:alias:bg:break:case:cd:command:continue:do:done:echo:elif:else:esac:eval:exec:exit:export:false:fg:fi:for:getopts:hash:if:in:jobs:kill:local:printf:pwd:read:readonly:return:set:shift:test:then:times:trap:true:type:ulimit:umask:unalias:unset:until:wait:while";
 
 // The words of bash alone. dash(1) speaks of fc, but Debian's dash doesn't have it.
-const BASH_WORDS: &str = "bind:builtin:caller:compgen:complete:compopt:coproc:declare:dirs:disown:enable:fc:function:help:history:let:logout:mapfile:popd:pushd:readarray:select:shopt:source:suspend:time:typeset";
+const BASH_WORDS: &str =
+    "bind:builtin:caller:compgen:complete:compopt:coproc:declare:dirs:disown:enable:fc:function:help:history:let:logout:mapfile:popd:pushd:readarray:select:shopt:source:suspend:time:typeset";
 
 // The words of dash alone.
 const DASH_WORDS: &str = "chdir";
@@ -30,7 +32,11 @@ pub(crate) fn word_answer(alloc: Global, is_bash: bool, name: &str) -> Result<An
         return Ok(Answer::Yes);
     }
     if is_among(alloc, BASH_WORDS, name)? {
-        return Ok(if is_bash { Answer::Yes } else { Answer::Unknown });
+        return Ok(if is_bash {
+            Answer::Yes
+        } else {
+            Answer::Unknown
+        });
     }
     if is_among(alloc, DASH_WORDS, name)? && !is_bash {
         return Ok(Answer::Unknown);

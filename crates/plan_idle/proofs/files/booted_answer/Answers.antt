@@ -1,5 +1,4 @@
 use Rattle.std.proofs.Common.{◌≡◌, ap, subst, IfOk}
-use Rattle.plan_tree.specs.declared.links.End.{End}
 use Rattle.plan_idle.specs.declared.answer.Answer.{Answer}
 use Rattle.plan_idle.specs.Answers.{booted_by}
 use Rattle.plan_idle.proofs.files.booted_answer.Goals as goal

@@ -1,6 +1,5 @@
 use Rattle.std.proofs.Common.{◌≡◌, ◌∙◌, ap, cond, sym, subst, Bool, IfOk, List, [], ℕ}
-use Rattle.plan_tree.specs.declared.links.End.{End}
-use Rattle.plan_idle.specs.Known.{begins_with_digit, lead_of, mounts_by, mounts_of, runs}
+use Rattle.plan_idle.specs.Known.{begins_with_digit, lead_of, mounts_by, runs}
 use Rattle.std.proofs.Common.{codes, false}
 use Rattle.plan_idle.proofs.known.mounts_of.Goals as goal
 

@@ -1,4 +1,4 @@
-use Rattle.std.proofs.Common.{◌≡◌, ◌∙◌, ap, sym, subst, List, [], ℕ, Bor, flat_map, IfOk, option_map}
+use Rattle.std.proofs.Common.{◌≡◌, ◌∙◌, ap, sym, subst, List, [], ℕ, flat_map, IfOk}
 use Rattle.plan_shell.specs.declared.step.Step.{Step}
 use Rattle.plan_shell.specs.Tree.{tree_of}
 use Rattle.plan_idle.specs.Answers.{answer_at}
@@ -11,7 +11,7 @@ use Rattle.plan_idle.proofs.script_paths.scripts_run.Goals as goal
 pub returns : goal.returns
 returns g c = λ known.
     let held = g.T.Tree.held c.args.tree.now in
-    let looks : Looks = answer_at held (option_map {T = Bor (List ℕ)} {U = List ℕ} (λ path. path.now) c.args.path) in
+    let looks : Looks = answer_at held c.args.places.now c.args.asker in
     let dirs : c.as_slice.result.now ≡ directories looks (tree_of c.args.list.now) =
     c.as_slice.ensures.value
     ∙ ap (λ (g : Gathered). g.dirs) (c.gathered.view_is ∙ c.in_ok-gathered.ensures known)
