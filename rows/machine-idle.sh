@@ -343,7 +343,7 @@ idle_make "$(printf '%s\n' 'SHELL=/bin/bash' '* * * * * root command -v shopt > 
 idle_is 'a:5' '2 command shopt exists;3 command chdir not found;6 command umask exists' 'the words of shells'
 
 # bash reads the file of BASH_ENV first, and sh doesn't.
-idle_make "$(printf '%s\n' 'BASH_ENV=/etc/b' '* * * * * root false && x' 'SHELL=/bin/bash' '* * * * * root false && x' 'BASH_ENV=' '* * * * * root false && x' \
+idle_make "$(printf '%s\n' 'BASH_ENV=/etc/b' '* * * * * root false && x' 'SHELL=/bin/bash' '* * * * * root false && x' 'BASH_ENV=""' '* * * * * root false && x' \
   'SHELL=/bin/sh' '* * * * * root false && x')" ''
 idle_is 'a:4 a:6' '2 it runs nothing;8 it runs nothing' 'BASH_ENV'
 

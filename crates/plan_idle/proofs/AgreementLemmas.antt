@@ -17,7 +17,7 @@ use Rattle.plan_tree.specs.Place.{child, names_of}
 use Rattle.plan_tree.specs.Tree.{Held}
 use Rattle.plan_idle.specs.declared.answer.Answer.{Answer}
 use Rattle.plan_idle.specs.declared.answer.Answer.TheVariants.{Yes, No, Unknown, Acts}
-use Rattle.plan_idle.specs.Answers.{Asker, and_answer, answer_among, answer_at, answer_in, answer_of, booted_answer, booted_path, command_by, directory_answer, directory_scripts, dirs_of, end_answer, executable_answer, file_answer, full_answer, is_no, is_script_name, listed_answer, may_run, mode_answer, no_scripts_answer, no_scripts_in, node_answer, only_usr, or_answer, path_answer, path_in, program_answer, word_answer}
+use Rattle.plan_idle.specs.Answers.{Asker, and_answer, answer_among, answer_at, answer_in, answer_of, booted_answer, booted_path, command_by, directory_answer, directory_scripts, dirs_of, end_answer, executable_answer, exists_answer, file_answer, full_answer, is_no, is_script_name, listed_answer, may_run, mode_answer, no_scripts_answer, no_scripts_in, node_answer, only_usr, or_answer, path_answer, path_in, program_answer, word_answer}
 use Rattle.plan_idle.specs.Known.{Places, execute_status, is_known, is_open, is_readable, is_roots, is_within, known_at, known_in, known_node, owners_count, places_of, seen_by}
 use Rattle.plan_idle.specs.Law.{AgreesFor, IdleRunsNothing, IsSame, found_at}
 use Rattle.plan_idle.proofs.RunLemmas.{fits, idle_runs_none, may_find, self_found}
@@ -236,6 +236,11 @@ mode_never : (status : Option Status) → acts (mode_answer status) ≡ false
 mode_never None = refl
 mode_never (Some status) = answer_never (not (bit_and status.mode 73 == 0))
 
+exists_never : (n : Node) → acts (exists_answer n) ≡ false
+exists_never node.Missing = refl
+exists_never node.Unreadable = refl
+exists_never n = refl
+
 file_never : (n : Node) → acts (file_answer n) ≡ false
 file_never (node.File is_empty) = refl
 file_never node.Unreadable = refl
@@ -260,7 +265,7 @@ executable_never node.Unreadable status = refl
 executable_never n status = refl
 
 node_never : (p : Property) (n : Node) (status : Option Status) → is_of_paths p ≡ true → acts (node_answer p n status) ≡ false
-node_never property.Exists n status is = refl
+node_never property.Exists n status is = exists_never n
 node_never property.File n status is = file_never n
 node_never property.Directory n status is = directory_never n
 node_never property.NotEmpty n status is = full_never n
@@ -281,7 +286,7 @@ end_never held p end.Unknown is = refl
 unreadable_fits :
     (p : Property) (status : Option Status) (n : Node) (status2 : Option Status) → is_of_paths p ≡ true →
     fits (node_answer p node.Unreadable status) (node_answer p n status2) ≡ true
-unreadable_fits property.Exists status n status2 is = refl
+unreadable_fits property.Exists status n status2 is = unknown_fits (exists_answer n) (exists_never n)
 unreadable_fits property.File status n status2 is = unknown_fits (file_answer n) (file_never n)
 unreadable_fits property.Directory status n status2 is = unknown_fits (directory_answer n) (directory_never n)
 unreadable_fits property.NotEmpty status n status2 is = unknown_fits (full_answer n) (full_never n)

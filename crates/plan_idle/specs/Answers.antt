@@ -26,6 +26,11 @@ abbrev pub answer_of : Bool → Answer
 answer_of true = Yes
 answer_of false = No
 
+abbrev pub exists_answer : Node → Answer
+exists_answer node.Missing = No
+exists_answer node.Unreadable = Unknown
+exists_answer _ = Yes
+
 abbrev pub file_answer : Node → Answer
 file_answer (node.File is_empty) = Yes
 file_answer node.Unreadable = Unknown
@@ -57,7 +62,7 @@ executable_answer _ status = No
 
 -- whether what is at the end of a path's links has a property
 abbrev pub node_answer : Property → Node → Option Status → Answer
-node_answer property.Exists node status = Yes
+node_answer property.Exists node status = exists_answer node
 node_answer property.File node status = file_answer node
 node_answer property.Directory node status = directory_answer node
 node_answer property.NotEmpty node status = full_answer node

@@ -1,7 +1,7 @@
 //! What a command finds where it looks for a file in a tree.
 
 ghost use Rattle.std.specs.Prelude.{◌≡◌, true, IfOk};
-ghost use Rattle.plan_idle.specs.Answers.{answer_of, booted_answer, booted_by, directory_answer, directory_if, end_answer, executable_answer, file_answer, full_answer, init_answer, is_systemd, mode_answer, node_answer, path_answer, program_answer};
+ghost use Rattle.plan_idle.specs.Answers.{answer_of, booted_answer, booted_by, directory_answer, directory_if, end_answer, executable_answer, exists_answer, file_answer, full_answer, init_answer, is_systemd, mode_answer, node_answer, path_answer, program_answer};
 
 use crate::answer::Answer;
 use crate::known::lead_of;
@@ -152,13 +152,23 @@ fn node_answer(property: Property, node: &Node, status: Option<Status>) -> Answe
     ensures { result ≡ node_answer property node.now status }
 {
     match property {
-        Property::Exists => Answer::Yes,
+        Property::Exists => exists_answer(node),
         Property::File => file_answer(node),
         Property::Directory => directory_answer(node),
         Property::NotEmpty => full_answer(node),
         Property::Executable => executable_answer(node, status),
         Property::Command => Answer::Unknown,
         Property::NoScripts => Answer::Acts,
+    }
+}
+
+fn exists_answer(node: &Node) -> Answer
+    ensures { result ≡ exists_answer node.now }
+{
+    match node {
+        Node::Missing => Answer::No,
+        Node::Unreadable => Answer::Unknown,
+        _ => Answer::Yes,
     }
 }
 
