@@ -68,7 +68,7 @@ fn job_command(
 
 // Returns whether the user of a job is root.
 fn is_roots_job(is_roots: bool, user: Option<&str>) -> bool
-    ensures { result ≡ is_roots_job is_roots (option_map (λ user. user.now) user) }
+    ensures { result ≡ is_roots_job is_roots (option_map (λ user. user.now) user.entry) }
 {
     match user {
         None => is_roots,
