@@ -145,7 +145,8 @@ constant_covered false = record { true_part = λ h. cc; false_part = λ h. refl;
 -- what a command runs is among what it may run, whatever the values are that aren't known, if it finds what is known
 pub covered : (looks found : Looks) → ((property : Property) (subject : List ℕ) → may_find (looks property subject) (found property subject) ≡ true)
     → (values : ℕ → Bool) (n : ℕ) (tree : Shell) → Covers (outcomes looks tree) (run found values n tree)
-covered looks found fit values n (Look property subject) = known_covered property subject (looks property subject) (found property subject) (values n) (fit property subject)
+covered looks found fit values n (Look property subject) =
+    known_covered property subject (looks property subject) (found property subject) (values n) (fit property subject)
 covered looks found fit values n (Known value) = constant_covered value
 covered looks found fit values n Effect = record { true_part = λ h. refl; false_part = λ h. refl; acts = λ h. refl }
 covered looks found fit values n (Not a) =
