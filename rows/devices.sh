@@ -110,7 +110,7 @@ devices_left() {
   # an answer without a byte writes nothing, so it can't fail
   devices_run 'exec 3<>left 4>left 3>&-; exec agenda check --crontab jobs >&4 4>&-'
   compare_texts "an empty answer to a pipe without a reader" '' '' 0
-  devices_run 'exec agenda clear --since 2024-01-01T00:00:01Z --until 2024-01-01T01:00:00Z --crontab jobs >&-'
+  devices_run 'exec agenda clear --since 2024-01-01T00:01:00Z --until 2024-01-01T01:00:00Z --crontab jobs >&-'
   compare_texts "a clear span, standard output closed" '' '' 0
   devices_run 'exec agenda changes before >&-'
   compare_texts "no change, standard output closed" '' '' 0
@@ -177,8 +177,8 @@ steps /|3|/: Device
 check --crontab jobs/|3|jobs/: Device
 check --crontab jobs d.timer loop.timer .|3|loop.timer: Device
 downtime --since 2024-01-01T00:00:00Z --until 2024-01-02T00:00:00Z --crontab jobs loop.timer|3|loop.timer: Device
-clear --since 2024-01-01T00:00:01Z --until 2024-01-01T01:00:00Z --crontab jobs zero.timer|1|zero.timer: line 0: TooLarge
-clear --since 2024-01-01T00:00:01Z --until 2024-01-01T01:00:00Z --crontab jobs/|3|jobs/: Device
+clear --since 2024-01-01T00:01:00Z --until 2024-01-01T01:00:00Z --crontab jobs zero.timer|1|zero.timer: line 0: TooLarge
+clear --since 2024-01-01T00:01:00Z --until 2024-01-01T01:00:00Z --crontab jobs/|3|jobs/: Device
 changes . --crontab .|3|.: Device
 changes before/ zero.timer|3|before/: Device
 changes loop.timer|3|loop.timer: Device
@@ -230,7 +230,7 @@ changes script|1
 plan --since 2024-01-01T00:00:00Z --upto 2024-01-01T00:01:00Z loop.timer|3
 check loop.timer|3
 downtime --since 2024 --until 2024|1
-clear --since 2024-01-01T00:00:01Z --until 2024-01-01T01:00:00Z --crontab jobs loop.timer|3
+clear --since 2024-01-01T00:01:00Z --until 2024-01-01T01:00:00Z --crontab jobs loop.timer|3
 week --since 2024-01-01T00:00:00Z --upto 2024-01-01T00:01:00Z zero.timer|1
 ROWS
 fi
@@ -273,7 +273,7 @@ steps
 plan --since 2024-01-01T00:00:00Z --upto 2024-01-02T00:00:00Z --crontab
 upcoming --after 2024-01-01T00:00:00Z --cron-d
 downtime --since 2024-01-01T00:00:00Z --until 2024-01-02T00:00:00Z --spool
-clear --since 2024-01-01T00:00:01Z --until 2024-01-01T01:00:00Z --crontab jobs
+clear --since 2024-01-01T00:01:00Z --until 2024-01-01T01:00:00Z --crontab jobs
 week --since 2024-01-01T00:00:00Z --until 2024-01-02T00:00:00Z --crontab jobs
 check --crontab jobs --spool
 changes

@@ -134,8 +134,9 @@ TABLE
 
 # The line of the first start has local times, as plan has them, and the status is 1.
 windows_answers <<'ROWS'
-S/u=0\x202\x20*\x20*\x20*\x20a\n|clear --since 2024-01-01T02:00:01Z --until 2024-01-02T02:00:00Z||||0
-S/u=0\x202\x20*\x20*\x20*\x20a\n|clear --since 2024-01-01T02:00:01Z --until 2024-01-02T02:00:01Z|2024-01-02T02:00:00+00:00>2024-01-02T02:00:00+00:00>u:1>a|||1
+S/u=0\x202\x20*\x20*\x20*\x20a\n|clear --since 2024-01-01T02:01:00Z --until 2024-01-02T02:00:00Z||||0
+S/u=0\x202\x20*\x20*\x20*\x20a\n|clear --since 2024-01-01T02:00:59Z --until 2024-01-02T02:00:00Z|2024-01-01T02:00:00+00:00>2024-01-01T02:00:00+00:00>u:1>a|||1
+S/u=0\x202\x20*\x20*\x20*\x20a\n|clear --since 2024-01-01T02:01:00Z --until 2024-01-02T02:00:01Z|2024-01-02T02:00:00+00:00>2024-01-02T02:00:00+00:00>u:1>a|||1
 S/u=0\x202\x20*\x20*\x20*\x20a\n|clear --utc --since 2024-01-01T02:00:00Z --upto 2024-01-02T02:00:00Z|2024-01-01T02:00:00Z>2024-01-01T02:00:00Z>u:1>a|||1
 etc/localtime=CET S/u=30\x202\x20*\x20*\x20*\x20a\n|clear --since 2024-03-31T00:00:00Z --until 2024-03-31T02:00:00Z|2024-03-31T03:00:00+02:00>2024-03-31T03:00:00+02:00>u:1>a|||1
 *q.timer U/q.timer=[Timer]\nOnCalendar=hourly\nRandomizedDelaySec=30min\nAccuracySec=1us\n|clear --utc --since 2024-01-01T02:10:00Z --until 2024-01-01T02:20:00Z|2024-01-01T02:00:00Z>2024-01-01T02:30:01Z>q.timer>q.service|||1
@@ -151,17 +152,17 @@ ROWS
 
 # If something is invalid or can't be read, the span isn't clear, whether or not another job starts.
 windows_answers <<'ROWS'
-S/u=x\n@daily\x20a\n|clear --since 2024-01-01T00:00:01Z --until 2024-01-01T01:00:00Z||root/var/spool/cron/crontabs/u:1: error: expected NAME=VALUE, or five fields and a command [BadSetting];agenda: not clear: some files could not be read|not S/u cron ignores this file because of line 1|1
-C/a/ S/u=@daily\x20a\n|clear --since 2024-01-01T00:00:01Z --until 2024-01-01T01:00:00Z||agenda: not clear: some files could not be read|C/a not readable|1
+S/u=x\n@daily\x20a\n|clear --since 2024-01-01T00:01:00Z --until 2024-01-01T01:00:00Z||root/var/spool/cron/crontabs/u:1: error: expected NAME=VALUE, or five fields and a command [BadSetting];agenda: not clear: some files could not be read|not S/u cron ignores this file because of line 1|1
+C/a/ S/u=@daily\x20a\n|clear --since 2024-01-01T00:01:00Z --until 2024-01-01T01:00:00Z||agenda: not clear: some files could not be read|C/a not readable|1
 C/a/|clear --since 2024-01-01 --until 2024-01-02||agenda: not clear: some files could not be read|C/a not readable|1
 C/a/ S/u=@daily\x20a\n|clear --utc --since 2024-01-01 --until 2024-01-02|2024-01-01T00:00:00Z>2024-01-01T00:00:00Z>u:1>a|agenda: not clear: some files could not be read|C/a not readable|1
 *a.timer U/a.timer=[Timer]\nOnCalendar=24:00\n|clear --since 2024-01-01 --until 2024-01-02||root/usr/lib/systemd/system/a.timer:2: error: hour in '24:00': out of range 0-23 [OutOfRange];agenda: not clear: some files could not be read||1
-C/a/ S/u=@daily\x20a\n|clear --strict --since 2024-01-01T00:00:01Z --until 2024-01-01T01:00:00Z||agenda: not clear: some files could not be read|C/a not readable|1
+C/a/ S/u=@daily\x20a\n|clear --strict --since 2024-01-01T00:01:00Z --until 2024-01-01T01:00:00Z||agenda: not clear: some files could not be read|C/a not readable|1
 ROWS
 
 # With --strict an error stops the answer, and nothing is said about it.
 windows_answers <<'ROWS'
-S/u=x\n@daily\x20a\n|clear --strict --since 2024-01-01T00:00:01Z --until 2024-01-01T01:00:00Z||root/var/spool/cron/crontabs/u:1: error: expected NAME=VALUE, or five fields and a command [BadSetting]|not S/u cron ignores this file because of line 1|1
+S/u=x\n@daily\x20a\n|clear --strict --since 2024-01-01T00:01:00Z --until 2024-01-01T01:00:00Z||root/var/spool/cron/crontabs/u:1: error: expected NAME=VALUE, or five fields and a command [BadSetting]|not S/u cron ignores this file because of line 1|1
 ROWS
 
 # What is skipped on purpose, and what isn't planned, leaves the span clear.
@@ -169,11 +170,11 @@ windows_answers <<'ROWS'
 *a.timer E/a.timer= U/a.timer|clear --since 2024-01-01 --until 2024-01-02|||E/a.timer masked|0
 *a.timer U/a.timer=[Timer]\nOnBootSec=5\n|clear --since 2024-01-01 --until 2024-01-02|||monotonic U/a.timer|0
 etc/anacrontab|clear --since 2024-01-01 --until 2024-01-02|||anacron|0
-etc/localtime/ S/u=@daily\x20a\n|clear --since 2024-01-01T00:00:01Z --until 2024-01-02|||zone|0
+etc/localtime/ S/u=@daily\x20a\n|clear --since 2024-01-01T00:01:00Z --until 2024-01-02|||zone|0
 ROWS
 machine_has_cron=no
 windows_answers <<'ROWS'
-S/u=@daily\x20a\n|clear --since 2024-01-01T00:00:01Z --until 2024-01-02|||cron|0
+S/u=@daily\x20a\n|clear --since 2024-01-01T00:01:00Z --until 2024-01-02|||cron|0
 ROWS
 machine_has_cron=yes
 

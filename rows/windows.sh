@@ -234,11 +234,14 @@ ROWS
 
 # ---- clear
 
-# The line is that of the first start which may fall into the span, as plan --delays has it; with --nominal as plan has it.
+# The line is that of the first start which may fall into the span, as plan --delays has it; with --nominal as plan has it. A start of a
+# cron job counts as its whole minute.
 windows_clear <<'ROWS'
---since @02:00:01Z --until @02:59:59Z --crontab c p.timer
+--since @02:01:00Z --until @02:59:59Z --crontab c p.timer
 --since @02:10:00Z --until @02:20:00Z --nominal q.timer
---since @02:00:01Z --until @03:00:00Z --crontab c p.timer
+--since @02:01:00Z --until @03:00:00Z --crontab c p.timer
+--since @02:01:00Z --until @03:00:00Z --nominal --crontab c
+--since @01:00:00Z --until @02:00:00Z --crontab c
 --since @03:00:01Z --until @03:30:00Z --nominal p.timer
 --since @03:00:02Z --until @03:30:00Z p.timer
 --since @05:00:00Z --until @06:00:00Z hour.timer
@@ -246,7 +249,10 @@ windows_clear <<'ROWS'
 --since @06:01:01Z --until ^ minute.timer
 ROWS
 windows_found <<'ROWS'
---since @02:00:01Z --until @03:00:01Z --crontab c p.timer|@03:00:00Z>@03:00:01Z>p.timer>p.service
+--since @02:00:01Z --until @02:59:59Z --crontab c p.timer|@02:00:00Z>@02:00:00Z>cron:1>nightly
+--since @02:00:59Z --until @02:01:00Z --crontab c|@02:00:00Z>@02:00:00Z>cron:1>nightly
+--since @02:00:01Z --until @02:01:00Z --nominal --crontab c|@02:00:00Z>cron:1>nightly
+--since @02:01:00Z --until @03:00:01Z --crontab c p.timer|@03:00:00Z>@03:00:01Z>p.timer>p.service
 --since @02:10:00Z --until @02:20:00Z q.timer|@02:00:00Z>@02:30:01Z>q.timer>q.service
 --since @01:30:01Z --until @02:00:01Z --crontab c q.timer|@01:00:00Z>@01:30:01Z>q.timer>q.service
 --since @02:00:00Z --until @02:00:01Z --crontab c q.timer|@02:00:00Z>@02:00:00Z>cron:1>nightly
@@ -261,14 +267,16 @@ ROWS
 # Of several starts the earliest is printed, and of several at one second that of the first job: also one before the span.
 windows_found <<'ROWS'
 span --crontab order|@06:00:00Z>@06:00:00Z>cron:2>b
---since @06:00:01Z --until ^ --crontab order|@07:00:00Z>@07:00:00Z>cron:4>d
+--since @06:00:01Z --until ^ --crontab order|@06:00:00Z>@06:00:00Z>cron:2>b
+--since @06:01:00Z --until ^ --crontab order|@07:00:00Z>@07:00:00Z>cron:4>d
 span noon.timer twice.timer --spool spool/anna --cron-d cron.d/php|@06:00:00Z>@06:00:00Z>php:1>www-data e
 span noon.timer twice.timer --spool spool/anna|@06:00:00Z>@06:00:00Z>anna:1>f
 span noon.timer twice.timer|@06:00:00Z>@06:00:00Z>twice.timer>u.target
 span seconds.timer --crontab six|@00:00:00Z>@00:00:00Z>cron:1>a
 span day.timer --crontab six|<00:00:00Z>@00:00:00Z>day.timer>day.service
 span --nominal day.timer --crontab six|@00:00:00Z>cron:1>a
---since @00:00:01Z --until @06:00:00Z day.timer --crontab six|@00:00:00Z>^>day.timer>day.service
+--since @00:00:01Z --until @06:00:00Z day.timer --crontab six|@00:00:00Z>@00:00:00Z>cron:1>a
+--since @00:01:00Z --until @06:00:00Z day.timer --crontab six|@00:00:00Z>^>day.timer>day.service
 ROWS
 
 # A span is clear if it is empty, if there is no job, or if no job has a start: @reboot isn't one.

@@ -6,6 +6,7 @@ use Rattle.plan_rules.specs.Delays.{counted}
 use Rattle.plan_rules.specs.Job.{JobParts}
 use Rattle.plan_collect.specs.declared.PlanView.TheVariants.{First}
 use Rattle.plan_machine.specs.declared.Machine.{Machine}
+use Rattle.plan_clear.specs.First.{whole_minute}
 use Rattle.agenda_machine.specs.Reports.{is_incomplete}
 use Rattle.agenda_arguments.specs.declared.JobsRequest.{JobsRequest}
 use Rattle.agenda_commands.specs.Prepare.{jobs_if, jobs_or}
@@ -24,10 +25,11 @@ use Rattle.agenda_sources.specs.declared.TimeZones.{TimeZones}
 use Rattle.agenda_answers.specs.Machine.{answers_said}
 use Rattle.agenda_answers.specs.Outcome.{Outcome, outcome_by}
 
--- no job may start in a span: at no second of it from one of its starts to that start and its delay
+-- no job may start in a span: at no second of it from one of its starts to that start and its delay, or of a cron job to the end of that
+-- minute
 abbrev pub NothingStarts : List JobParts → Bounds → Type 0
 NothingStarts jobs span = (number start second : ℕ) (job : JobParts) → slice_get jobs number ≡ Some job → is_start job.rule start ≡ true
-    → start ≤ second → second ≤ start + job.delay → span.since ≤ second → second < span.upto → ⊥
+    → start ≤ second → second ≤ start + (whole_minute job).delay → span.since ≤ second → second < span.upto → ⊥
 
 -- these jobs are read of files, and none of them may start in the span of a plan
 pub record IsClearOf (keeps_going : Bool) (held : Held) (planning : Planning) (request : JobsRequest) : Type 0 where

@@ -5,7 +5,7 @@ ghost use Rattle.agenda_answers.specs.ExceptLaws.{AnswersExceptIdleJobs};
 
 /// States the law of clear spans: if `clear` answers with status 0, no file and no error was skipped, and no job of the
 /// files may start in the span. A job may start at each second from a time of its rule to that time and its delay,
-/// unless delays don't count.
+/// unless delays don't count, and a cron job in the whole minute.
 ///
 /// The function does nothing: its contract is the law.
 pub fn clear_is_safe()

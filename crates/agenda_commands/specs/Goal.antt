@@ -1,5 +1,5 @@
 -- What is made of jobs, by a goal: its text and its errors. All of it is our choice (agenda).
-use Rattle.std.specs.Prelude.{◌≡◌, ◌≢◌, ⊤, ℕ, not, ◌==◌, if◌then◌else◌, Bool, true, false, List, [], is_some, length, map, Option, None, Some, Result, Ok, Err, slice_get}
+use Rattle.std.specs.Prelude.{◌≡◌, ◌≢◌, ⊤, ℕ, not, ◌==◌, if◌then◌else◌, Bool, true, false, List, [], is_some, length, map, Option, None, Some, Result, Ok, Err}
 use Rattle.std.specs.List.{cons_option}
 use Rattle.plan_texts.specs.Steps.{◌>>=◌}
 use Rattle.plan_rules.specs.Job.{JobParts}
@@ -10,6 +10,7 @@ use Rattle.plan_collect.specs.Planning.{plan_answer, valid_sizes}
 use Rattle.plan_collect.specs.Windows.{agenda_of_windows, timings_of}
 use Rattle.plan_collect.specs.declared.PlanView.{PlanView}
 use Rattle.plan_collect.specs.declared.PlanView.TheVariants as view
+use Rattle.plan_clear.specs.First as clear
 use Rattle.plan_downtime.specs.Downtime.{missed_starts}
 use Rattle.plan_downtime.specs.Lines.{downtime_text}
 use Rattle.plan_rules.specs.declared.NamedZone.{NamedZone}
@@ -109,9 +110,9 @@ week_output format jobs planning = do
   made ← agenda_of_jobs jobs planning
   Ok (week_text format (week_of (clock_of format.local) made) made)
 
--- the first entry of the agenda of the jobs that are planned, if it has one
+-- the first entry of the agenda of the jobs that are planned, if it has one. A start of a cron job counts as the whole minute
 abbrev pub first_of : List JobParts → Planning → Option (ℕ × ℕ)
-first_of jobs planning = slice_get (agenda_of_windows (timings_of jobs) planning.span) 0
+first_of jobs planning = clear.first_of jobs planning.span
 
 -- the lines of entries of an agenda of jobs
 abbrev pub agenda_lines : List JobParts → (entries : List (ℕ × ℕ)) → List Line

@@ -1,15 +1,17 @@
 -- The first entry of an agenda is the least: for the laws, and for `first_entry`. The agenda goes by seconds, and its row
 -- of a second by jobs. So its first entry is the first one of the first row that isn't empty (`rows_first`, `row_first`).
-use Rattle.std.proofs.Common.{◌≡◌, ℕ, zero, suc, ◌+◌, ◌<◌, ◌≤◌, Bool, true, false, cond, List, [], ◌∷◌, ◌++◌, Option, Some, None, inl, inr, refl, sym, ◌∙◌, subst, arith}
+use Rattle.std.proofs.Common.{◌≡◌, ℕ, zero, suc, ◌+◌, ◌<◌, ◌≤◌, Bool, true, false, cond, List, [], ◌∷◌, ◌++◌, Option, Some, None, inl, inr, ap, refl, sym, ◌∙◌, subst, arith}
 use Rattle.std.specs.Prelude.{slice_get}
 use Rattle.std.specs.List.{range_with_len, flat_map}
 use Rattle.std.proofs.lemmas.Bool.{cases_lt, true≢false, false_from_ne_true, and_from}
 use Rattle.std.proofs.lemmas.Bool.Decides.{nat_tests}
+use Rattle.std.proofs.lemmas.Option.{slice_get-map}
+use Rattle.std.specs.Option.{option_map}
 use Rattle.plan_next.specs.Span.{Bounds}
 use Rattle.plan_next.specs.Starts.{is_start}
 use Rattle.plan_rules.specs.Job.{JobParts}
 use Rattle.plan_collect.specs.Windows.{timings_of, windows_from, agenda_of_windows, has_window, meets}
-use Rattle.plan_clear.specs.First.{IsNotAfter, IsClear, IsLeastWindow, FirstIsLeast, NoneWithoutWindows, NothingStartsIfClear}
+use Rattle.plan_clear.specs.First.{IsNotAfter, IsClear, IsLeastWindow, FirstIsLeast, NoneWithoutWindows, NothingStartsIfClear, first_of, whole_minute, whole_minutes}
 
 -- ---- the first entry of a row
 
@@ -213,15 +215,15 @@ first_unique jobs span (Some (a, j)) (Some (b, k)) (is, least) (is₂, least₂)
     let number : j ≡ k = omega (arith, forth.1 second, back.1 (sym second)) in
     λ i. Some (second i, number i)
 
--- ---- the laws
+-- ---- the laws, with whole minutes
 
 pub first_is_least : FirstIsLeast
-first_is_least jobs span first is = subst (IsFirst jobs span) is (agenda-first jobs span)
+first_is_least jobs span first is = subst (IsFirst (whole_minutes jobs) span) is (agenda-first (whole_minutes jobs) span)
 
 pub without_windows : NoneWithoutWindows
 without_windows jobs span = (
-  λ none. subst (IsFirst jobs span) none (agenda-first jobs span),
-  λ clear. first_unique jobs span (slice_get (agenda_of_windows (timings_of jobs) span) 0) None (agenda-first jobs span) clear,
+  λ none. subst (IsFirst (whole_minutes jobs) span) none (agenda-first (whole_minutes jobs) span),
+  λ clear. first_unique (whole_minutes jobs) span (first_of jobs span) None (agenda-first (whole_minutes jobs) span) clear,
 )
 
 -- a window that has a second of the span meets it
@@ -233,7 +235,9 @@ window_of job span start second is from to low high =
 
 pub nothing_starts : NothingStartsIfClear
 nothing_starts jobs span number start second job none is starts from to low high =
-    let clear : IsClear jobs span = (without_windows jobs span).0 none in
-    let not : has_window (Some job) span start ≡ false =
-    subst (λ (o : Option JobParts). has_window o span start ≡ false) is (clear start number) in
-    true≢false (sym (window_of job span start second starts from to low high) ∙ not)
+    let clear : IsClear (whole_minutes jobs) span = (without_windows jobs span).0 none in
+    let own : slice_get (whole_minutes jobs) number ≡ Some (whole_minute job) =
+    slice_get-map whole_minute jobs number ∙ ap (option_map whole_minute) is in
+    let not : has_window (Some (whole_minute job)) span start ≡ false =
+    subst (λ (o : Option JobParts). has_window o span start ≡ false) own (clear start number) in
+    true≢false (sym (window_of (whole_minute job) span start second starts from to low high) ∙ not)

@@ -1,25 +1,28 @@
 //! The first entry of an agenda of windows.
 
-ghost use Rattle.std.specs.Prelude.{◌≡◌, ◌<◌, [], length, slice_get, Some, IfSome};
+ghost use Rattle.std.specs.Prelude.{◌≡◌, ◌<◌, [], length, Some, IfSome};
 ghost use Rattle.std.specs.List.{cons_option};
 ghost use Rattle.plan_collect.specs.Agenda.{IsInYears};
 ghost use Rattle.plan_next.specs.Starts.{IsFirstIn};
-ghost use Rattle.plan_collect.specs.Windows.{agenda_of_windows, has_window, timings_of};
-ghost use Rattle.plan_clear.specs.First.{FirstIsLeast, NoneWithoutWindows, NothingStartsIfClear, earlier_of};
+ghost use Rattle.plan_collect.specs.Windows.{has_window};
+ghost use Rattle.plan_clear.specs.First.{FirstIsLeast, NoneWithoutWindows, NothingStartsIfClear, earlier_of, first_of, whole_minute};
 
 use plan_collect::{Start, first_second};
 use plan_next::{Span, next_from};
-use plan_rules::{Job, Jobs};
+use plan_rules::{Job, Jobs, Rule};
+
+// The cron daemon wakes once a minute, and may start a job as late as at this second of it.
+const LAST_SECOND: u64 = 59;
 
 /// Returns the first entry of the agenda of jobs over a span: a second, and the number of the job that may start from
 /// then on. `None` if no job may start in the span.
 ///
-/// A job may start up to its delay later than at a time of its rule. So the entry may be earlier than the span, by the
-/// job's delay at most. If several jobs have an entry at the first second, the one with the lowest number is returned.
+/// A job may start up to its delay later than at a time of its rule, and a cron job at any second of its minute. So the
+/// entry may be earlier than the span, by the job's delay or by 59 seconds at most. If several jobs have an entry at the first second, the one with the lowest number is returned.
 ///
 /// Only one start of each job is searched for, and no memory is requested.
 pub fn first_entry(jobs: &Jobs, span: Span) -> Option<Start>
-    ensures first { result ≡ slice_get (agenda_of_windows (timings_of jobs.now) span) 0 }
+    ensures first { result ≡ first_of jobs.now span }
     ensures before_end { IfSome result (λ entry. entry.0 < span.upto) }
     ensures of_job { IfSome result (λ entry. entry.1 < length jobs.now) }
     ensures years { IsInYears (cons_option result []) }
@@ -38,10 +41,20 @@ pub fn first_entry(jobs: &Jobs, span: Span) -> Option<Start>
 // Returns the first start of a job whose window meets a span, which ends at `upto`.
 fn first_window(job: &Job, span: Span, upto: u64) -> Option<u64>
     requires { upto ≡ span.upto }
-    ensures { IsFirstIn (has_window (Some job.now) span) 0 span.upto result }
+    ensures { IsFirstIn (has_window (Some (whole_minute job.now)) span) 0 span.upto result }
 {
-    let second = next_from(job.rule(), first_second(span, job.delay()))?;
+    let second = next_from(job.rule(), first_second(span, lateness_of(job)))?;
     if second < upto { Some(second) } else { None }
+}
+
+// Returns how much later than at a time of its rule a job may start, in seconds.
+fn lateness_of(job: &Job) -> u64
+    ensures { result ≡ (whole_minute job.now).delay }
+{
+    match &**job.rule() {
+        Rule::Cron(_) => job.delay().max(LAST_SECOND),
+        Rule::Events(_) | Rule::Never => job.delay(),
+    }
 }
 
 // Returns the earlier one of the first entry so far and of the entry that a job with a higher number has at `second`.
@@ -66,7 +79,8 @@ pub fn first_entry_is_least()
 {}
 
 /// States the law of clear spans: an agenda has no first entry exactly if no job has a start whose window meets the
-/// span. The window of a start reaches from the start to the job's delay later, both included.
+/// span. The window of a start reaches from the start to the job's delay later, both included; that of a cron job's start
+/// to the end of its minute, or to its delay if that is longer.
 ///
 /// The function does nothing: its contract is the law.
 pub fn none_without_windows()
@@ -74,7 +88,7 @@ pub fn none_without_windows()
 {}
 
 /// States the law of jobs in a clear span: if an agenda has no first entry, no job may start at any second of the span.
-/// A job may start at each second from a time of its rule to that time and its delay.
+/// A job may start at each second from a time of its rule to that time and its delay, a cron job at each of its minute.
 ///
 /// The function does nothing: its contract is the law.
 pub fn nothing_starts_if_clear()
