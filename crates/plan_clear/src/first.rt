@@ -18,7 +18,8 @@ const LAST_SECOND: u64 = 59;
 /// then on. `None` if no job may start in the span.
 ///
 /// A job may start up to its delay later than at a time of its rule, and a cron job at any second of its minute. So the
-/// entry may be earlier than the span, by the job's delay or by 59 seconds at most. If several jobs have an entry at the first second, the one with the lowest number is returned.
+/// entry may be earlier than the span, by the job's delay or by 59 seconds at most. If several jobs have an entry at the
+/// first second, the one with the lowest number is returned.
 ///
 /// Only one start of each job is searched for, and no memory is requested.
 pub fn first_entry(jobs: &Jobs, span: Span) -> Option<Start>
