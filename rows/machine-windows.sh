@@ -397,7 +397,7 @@ TABLE
   windows_terminal 'clear|--utc|--nominal|--since|2024-01-01|--until|2024-01-02' 1 <<TABLE
 2024-01-01T00:30:00Z${tab}u:1${tab}aaaaaaaaaaaaaaaaaaaaaaaaaaaaaa
 TABLE
-  windows_terminal 'clear|--since|2024-01-01T00:30:01Z|--until|2024-01-01T01:30:00Z' </dev/null
+  windows_terminal 'clear|--since|2024-01-01T00:31:00Z|--until|2024-01-01T01:30:00Z' </dev/null
   windows_terminal 'changes|hour' 1 <<'TABLE'
 RUNS                            BEFORE …
 aaaaaaaaaaaaaaaaaaaaaaaaaaaaaa  0      …
