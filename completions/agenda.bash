@@ -71,8 +71,8 @@ _agenda() {
             mapfile -t COMPREPLY < <(compgen -W '1 2 3 4 5 6 7 8' -- "$cur")
             return
             ;;
-        *:--after | *:--count | *:--since | *:--upto | *:--until | *:--least | *:--room | *:--limit | *:--except)
-            # a time, a number or the name of a job: nothing to complete
+        *:--after | *:--count | *:--since | *:--upto | *:--until | *:--least | *:--room | *:--limit | *:--except | *:--only)
+            # a time, a number or a pattern of names: nothing to complete
             return
             ;;
     esac
@@ -129,38 +129,38 @@ _agenda() {
             [[ ${COMPREPLY-} == *= ]] && compopt -o nospace
             ;;
         machine:-* | machine\ upcoming:*)
-            mapfile -t COMPREPLY < <(compgen -W "--after= --except= --idle --delays --strict $form $machine" -- "$cur")
+            mapfile -t COMPREPLY < <(compgen -W "--after= --except= --only= --idle --delays --strict $form $machine" -- "$cur")
             [[ ${COMPREPLY-} == *= ]] && compopt -o nospace
             ;;
         machine:*)
             mapfile -t COMPREPLY < <(compgen -W 'upcoming plan quiet downtime clear changes week scripts check sources next describe' -- "$cur")
             ;;
         machine\ plan:*)
-            mapfile -t COMPREPLY < <(compgen -W "$span --except= --idle --delays --strict $form $machine" -- "$cur")
+            mapfile -t COMPREPLY < <(compgen -W "$span --except= --only= --idle --delays --strict $form $machine" -- "$cur")
             [[ ${COMPREPLY-} == *= ]] && compopt -o nospace
             ;;
         machine\ quiet:*)
-            mapfile -t COMPREPLY < <(compgen -W "$span --least= --except= --idle --nominal --strict $form $machine" -- "$cur")
+            mapfile -t COMPREPLY < <(compgen -W "$span --least= --except= --only= --idle --nominal --strict $form $machine" -- "$cur")
             [[ ${COMPREPLY-} == *= ]] && compopt -o nospace
             ;;
         machine\ downtime:*)
-            mapfile -t COMPREPLY < <(compgen -W "$span --except= --idle --strict $form $machine" -- "$cur")
+            mapfile -t COMPREPLY < <(compgen -W "$span --except= --only= --idle --strict $form $machine" -- "$cur")
             [[ ${COMPREPLY-} == *= ]] && compopt -o nospace
             ;;
         machine\ clear:*)
-            mapfile -t COMPREPLY < <(compgen -W "$search --except= --idle --nominal --strict ${machine/--json /}" -- "$cur")
+            mapfile -t COMPREPLY < <(compgen -W "$search --except= --only= --idle --nominal --strict ${machine/--json /}" -- "$cur")
             [[ ${COMPREPLY-} == *= ]] && compopt -o nospace
             ;;
         machine\ changes:-*)
-            mapfile -t COMPREPLY < <(compgen -W "$sizes --except= --idle --strict $form $machine" -- "$cur")
+            mapfile -t COMPREPLY < <(compgen -W "$sizes --except= --only= --idle --strict $form $machine" -- "$cur")
             [[ ${COMPREPLY-} == *= ]] && compopt -o nospace
             ;;
         machine\ week:*)
-            mapfile -t COMPREPLY < <(compgen -W "$span --except= --idle --strict $machine" -- "$cur")
+            mapfile -t COMPREPLY < <(compgen -W "$span --except= --only= --idle --strict $machine" -- "$cur")
             [[ ${COMPREPLY-} == *= ]] && compopt -o nospace
             ;;
         machine\ scripts:*)
-            mapfile -t COMPREPLY < <(compgen -W "--after= --except= --idle --strict ${machine/--json /}" -- "$cur")
+            mapfile -t COMPREPLY < <(compgen -W "--after= --except= --only= --idle --strict ${machine/--json /}" -- "$cur")
             [[ ${COMPREPLY-} == *= ]] && compopt -o nospace
             ;;
         machine\ sources:*)
@@ -176,7 +176,7 @@ _agenda() {
             [[ ${COMPREPLY-} == *= ]] && compopt -o nospace
             ;;
         machine\ describe:*)
-            mapfile -t COMPREPLY < <(compgen -W "--except= --idle --strict $form $machine" -- "$cur")
+            mapfile -t COMPREPLY < <(compgen -W "--except= --only= --idle --strict $form $machine" -- "$cur")
             [[ ${COMPREPLY-} == *= ]] && compopt -o nospace
             ;;
         plan:* | upcoming:* | quiet:* | downtime:* | clear:* | week:* | check:* | describe:*)

@@ -147,7 +147,10 @@ explain_try() {
     timer-name) printf '[Timer]\nOnCalendar=daily\n' >"$name" && agenda check "$name" ;;
     zone) eval "agenda next --after 2024-01-01T00:00:00Z --cron @daily $words" >/dev/null ;;
     moment) printf '@daily a\n' >"jobs" && eval "$words" >/dev/null ;;
-    machine) mkdir -p root && eval "$words --root root" >/dev/null ;;
+    machine)
+      mkdir -p root/usr/sbin root/etc/cron.d && : >root/usr/sbin/cron && echo '@daily root x' >root/etc/cron.d/backup &&
+        eval "$words --root root" >/dev/null
+      ;;
     baseline) eval "${words/ .. / --since 2024-01-01T00:00:00Z --until 2024-01-02T00:00:00Z }" && agenda changes before ;;
     span) eval "agenda plan --since 2024-01-01T00:00:00Z $words" >/dev/null ;;
   esac
@@ -207,6 +210,7 @@ CronIgnores
 Delayed
 Device
 EitherDay
+EmptySpan
 Fraction
 Full
 LineEnd
@@ -223,6 +227,7 @@ NoTimerSection
 NoUser
 NotSettled
 NotUtf8
+NothingNamed
 OutOfRange
 OutOfYears
 Percent
@@ -284,6 +289,7 @@ CronDiffers crontab|@daily grep -c '\\.' list|@daily grep -c '[.]' list
 CronIgnores crontab|MAILTO=|MAILTO=""
 Delayed setting|RandomizedDelaySec=1h|RandomizedDelaySec=0
 EitherDay crontab|0 9 13 * 5 report|0 9 13 * * test $(date +\%u) != 5 || report
+EmptySpan machine|agenda machine clear --since 2026-12-01 --until 2026-12-01|agenda machine clear --since 2026-12-01 --until 2026-12-02
 Fraction event|OnCalendar=*:*:29.5|OnCalendar=*:*:30
 MayStop event-zone|OnCalendar=*-1/5-3 07:00 Europe/Oslo|OnCalendar=*-1,6,11-3 07:00 Europe/Oslo
 Merged event|OnCalendar=*:*:0/10|OnCalendar=*:*:0/10;AccuracySec=1s
@@ -294,6 +300,7 @@ NoSuchDate span|--upto 2024-01-31T24:00:00Z|--upto 2024-02-01T00:00:00Z
 NoSuchZone zone|--zone europe/berlin|--zone Europe/Berlin
 NoTimerSection timer|OnCalendar=daily|[Timer];OnCalendar=daily
 NoUser system|30 4 * * * /usr/bin/backup --all|30 4 * * * root /usr/bin/backup --all
+NothingNamed machine|agenda machine clear --except bakcup.timer|agenda machine clear --except 'backup*'
 OutOfRange crontab|0 24 * * * backup|0 0 * * * backup
 Percent crontab|0 4 * * * backup --name $(date +%F)|0 4 * * * backup --name $(date +\%F)
 RangeFromEnd event|OnCalendar=*-*~1..4/2|OnCalendar=*-*~1..3/2

@@ -260,7 +260,8 @@ hostile_wants() {
   echo 'Wants=a.timer'
 }
 
-# 10,000 units are reached, with default.target and a.timer; then one more, which is an error.
+# 10,000 units are reached, with default.target and a.timer; then one more, which is an error. Of clear the status 1 says that a job may
+# start, so it has another one.
 program_has_boot=no
 program_make 'E/default.target U/a.timer'
 program_has_boot=yes
@@ -269,11 +270,13 @@ program_listing U/a.timer
 program_run sources --root root
 program_compare "10,000 units" "$work/out.wanted" /dev/null 0
 hostile_wants 9999 >"$machine_folder/root/etc/systemd/system/default.target"
-program_run sources --root root
-grep -vE '^agenda: .*10,?000 units' "$work/err" >"$work/err.other"
-grep -qE '^agenda: .*10,?000 units' "$work/err" || echo 'no line that says so' >>"$work/err.other"
-mv -- "$work/err.other" "$work/err"
-program_compare "10,001 units" /dev/null /dev/null 1
+for hostile_question in 'sources 1' 'clear 4'; do
+  program_run "${hostile_question% *}" --root root
+  grep -vE '^agenda: .*10,?000 units' "$work/err" >"$work/err.other"
+  grep -qE '^agenda: .*10,?000 units' "$work/err" || echo 'no line that says so' >>"$work/err.other"
+  mv -- "$work/err.other" "$work/err"
+  program_compare "${hostile_question% *} of 10,001 units" /dev/null /dev/null "${hostile_question#* }"
+done
 
 # ---- without rights
 

@@ -416,6 +416,8 @@ program_compare 'the list of scripts' "$work/out.wanted" /dev/null 0
 grep -v '^a:1' "$work/out.wanted" >"$work/some.wanted"
 program_run scripts --root root --after $idle_when --utc --except a:1
 program_compare 'the list of scripts without a job' "$work/some.wanted" /dev/null 0
+program_run scripts --root root --after $idle_when --utc --only '?:2'
+program_compare 'the list of scripts of one job' "$work/some.wanted" /dev/null 0
 
 # ---- long commands
 

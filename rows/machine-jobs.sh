@@ -14,6 +14,9 @@ S/u=@daily\x20a\n@daily\x20b\n|--utc --after 2024-03-31T00:00:00Z --except=u:1 -
 S/u=@daily\x20a\n@daily\x20b\n|plan --utc --since 2024-03-31T00:00:00Z --until 2024-04-01T00:00:00Z --except u:2|agenda 2>2024-03-31T00:00:00Z>2024-04-01T00:00:00Z>1;2024-03-31T00:00:00Z>u:1>a||
 S/u=@daily\x20a\n@daily\x20b\n|plan --json --utc --since 2024-03-31T00:00:00Z --until 2024-04-01T00:00:00Z --except u:1|{"start":"2024-03-31T00:00:00Z","job":"u:2","path":"root/var/spool/cron/crontabs/u","line":2,"run":"b"}||
 *t.timer U/t.timer=[Timer]\nOnCalendar=daily\n S/t=@daily\x20a\n|upcoming --utc --after 2024-03-31T00:00:00Z --except t.timer|2024-04-01T00:00:00Z>t:1>a||
+*t.timer U/t.timer=[Timer]\nOnCalendar=daily\n S/t=@daily\x20a\n|upcoming --utc --after 2024-03-31T00:00:00Z --except t*:?|2024-04-01T00:00:00Z>t.timer>t.service||
+*t.timer U/t.timer=[Timer]\nOnCalendar=daily\n S/t=@daily\x20a\n|--utc --after 2024-03-31T00:00:00Z --only=t|2024-04-01T00:00:00Z>t:1>a||
+S/u=@daily\x20a\n@daily\x20b\n@daily\x20c\n|plan --utc --since 2024-03-31T00:00:00Z --until 2024-04-01T00:00:00Z --only u:1 --only=u:3 --except u:3|agenda 2>2024-03-31T00:00:00Z>2024-04-01T00:00:00Z>1;2024-03-31T00:00:00Z>u:1>a||
 ROWS
 
 # ---- the forms of an answer
@@ -100,22 +103,22 @@ ROWS
 
 # ---- timers without events
 
-# A timer that has a monotonic setting and no event is reported by its file, once, after anacron and timers without a unit, and
-# before the jobs of at and the timers of users.
+# A timer that has a monotonic setting is reported by its file, after anacron, timers without a unit, the jobs of at and the timers of
+# users, in the order of the sources: each instance of a template, too. Its events are planned.
 program_answers <<'ROWS'
 *a.timer U/a.timer=[Timer]\nOnBootSec=5\n|upcoming --utc --after 2024-03-31T00:00:00Z|none>a.timer>a.service||monotonic U/a.timer
 *a.timer U/a.timer=[Timer]\nOnBootSec=5\n|plan --utc --since 2024-04-01T00:00:00Z --until 2024-04-02T00:00:00Z|agenda 2>2024-04-01T00:00:00Z>2024-04-02T00:00:00Z>0||monotonic U/a.timer
-*a.timer U/a.timer=[Timer]\nOnBootSec=5\n|quiet --utc --since 2024-04-01T00:00:00Z --until 2024-04-01T01:00:00Z|2024-04-01T00:00:00Z>2024-04-01T01:00:00Z>3600||monotonic U/a.timer
+*a.timer U/a.timer=[Timer]\nOnBootSec=5\n|quiet --utc --since 2024-04-01T00:00:00Z --until 2024-04-01T01:00:00Z|2024-04-01T00:00:00Z>2024-04-01T01:00:00Z>3600||monotonic U/a.timer,quiet 1
 *a.timer U/a.timer=[Timer]\nOnBootSec=5\n|check|root/usr/lib/systemd/system/a.timer: warning: also starts by OnBootSec= or the like, which is not planned [Monotonic]||
 *a.timer U/a.timer=[Timer]\nOnBootSec=5\n|sources|timer>a.timer>root/usr/lib/systemd/system/a.timer||
 U/a.timer=[Timer]\nOnBootSec=5\n|upcoming|||
 U/a.timer=[Timer]\nOnBootSec=5\n|upcoming --all|none>a.timer>a.service||monotonic U/a.timer
-*a.timer U/a.timer=[Timer]\nOnBootSec=5\nOnCalendar=daily\n|upcoming --utc --after 2024-03-31T00:00:00Z|2024-04-01T00:00:00Z>a.timer>a.service||
+*a.timer U/a.timer=[Timer]\nOnBootSec=5\nOnCalendar=daily\n|upcoming --utc --after 2024-03-31T00:00:00Z|2024-04-01T00:00:00Z>a.timer>a.service||also U/a.timer OnBootSec
 *a.timer U/a.timer=[Timer]\nOnBootSec=5\n E/a.timer.d/x.conf=[Timer]\nAccuracySec=1h\n|upcoming|none>a.timer>a.service||monotonic U/a.timer
-*a@b.timer *a@c.timer U/a@.timer=[Timer]\nOnBootSec=5\n N/a@.service|upcoming|none>a-b.timer>a-b.service;none>a-c.timer>a-c.service||monotonic U/a@.timer
+*a@b.timer *a@c.timer U/a@.timer=[Timer]\nOnBootSec=5\n N/a@.service|upcoming|none>a-b.timer>a-b.service;none>a-c.timer>a-c.service||monotonic U/a@.timer,monotonic U/a@.timer
 *a@OnBootSec.timer *a@b.timer U/a@.timer=[Timer]\n%i=5\n N/a@.service|upcoming|none>a-OnBootSec.timer>a-OnBootSec.service||monotonic U/a@.timer,not U/a@.timer systemd 252 rejects this timer: it has no valid trigger
-etc/anacrontab F/atjobs/a root/.config/systemd/user/c.timer *b.timer U/b.timer=[Timer]\nUnit=x.service\n *a.timer U/a.timer=[Timer]\nOnBootSec=5\n|upcoming|none>a.timer>a.service||anacron,missing U/b.timer x.service,monotonic U/a.timer,at F/atjobs,user root/.config/systemd/user
-*b.timer *a.timer U/a.timer=[Timer]\nOnBootSec=5\n E/b.timer=[Timer]\nOnActiveSec=5|upcoming|none>a.timer>a.service;none>b.timer>b.service||monotonic U/a.timer,monotonic E/b.timer
+etc/anacrontab F/atjobs/a root/.config/systemd/user/c.timer *b.timer U/b.timer=[Timer]\nUnit=x.service\n *a.timer U/a.timer=[Timer]\nOnBootSec=5\n|upcoming|none>a.timer>a.service||anacron,missing U/b.timer x.service,at F/atjobs,user root/.config/systemd/user,monotonic U/a.timer
+*b.timer *a.timer U/a.timer=[Timer]\nOnBootSec=5\n E/b.timer=[Timer]\nOnActiveSec=5|upcoming|none>a.timer>a.service;none>b.timer>b.service||monotonic U/a.timer,monotonic E/b.timer OnActiveSec
 *a.timer U/a.timer=[Timer]\nOnBootSec=5\n#\xff\n|upcoming||root/usr/lib/systemd/system/a.timer: error: not UTF-8 [NotUtf8]|
 ROWS
 

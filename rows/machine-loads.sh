@@ -251,9 +251,9 @@ ROWS
 
 machine_has_cron=no
 loads_errors <<'ROWS'
-usr/sbin/crond C/a=FOURCRON_TZ=UTC\nFIELDSroot~y\n#~x\n@reboot~root~z\n|a:1|not C/a:3 after CRON_TZ=; which agenda does not read,not C/a:5 after CRON_TZ=; which agenda does not read|
+usr/sbin/crond C/a=FOURCRON_TZ=UTC\nFIELDSroot~y\n#~x\n@reboot~root~z\n|a:1|zoned C/a:3,zoned C/a:5|
 usr/sbin/crond C/a=FOUR~"CRON_TZ"~=~UTC\n|a:1||
-usr/sbin/crond S/ann='CRON_TZ'=UTC\nMINE||not S/ann:2 after CRON_TZ=; which agenda does not read|
+usr/sbin/crond S/ann='CRON_TZ'=UTC\nMINE||zoned S/ann:2|
 usr/sbin/crond C/a=FIELDSroot~CRON_TZ=UTC\nFOUR|a:1 a:2||
 usr/bin/crond C/a=CRON_TZ=UTC\nFOUR|a:2||
 ROWS
@@ -272,8 +272,8 @@ loads_errors <<'ROWS'
 %a U/a.timer=[Timer]\nOnCalendar=\\\n*:*/15\nOnCalendar=daily\n|a.timer|not U/a.timer:2 systemd 252 rejects '*:*/15': write 0/15 for */15|
 %a U/a.timer=[Timer]\nOnCalendar=daily\nOnCalendar=\n||not U/a.timer systemd 252 rejects this timer: it has no valid trigger|
 %a U/a.timer=[Timer]\nAccuracySec=1s\n||not U/a.timer systemd 252 rejects this timer: it has no valid trigger|
-%a U/a.timer=[Timer]\nOnBootSec=x\n||monotonic U/a.timer,not U/a.timer systemd 252 rejects this timer: it has no valid trigger|
-%a U/a.timer=[Timer]\nOnClockChange=yes\n|a.timer||
+%a U/a.timer=[Timer]\nOnBootSec=x\n||not U/a.timer systemd 252 rejects this timer: it has no valid trigger|
+%a U/a.timer=[Timer]\nOnClockChange=yes\n|a.timer|also U/a.timer OnClockChange|
 %a U/a.timer=[Timer]\nOnTimezoneChange=on\nOnTimezoneChange=0\n||not U/a.timer systemd 252 rejects this timer: it has no valid trigger|
 %a U/a.timer=[Timer]\nOnCalendar=daily\n[Install\n||not U/a.timer systemd 252 rejects this file: bad section header|
 %a U/a.timer=[Timer]\nOnCalendar=daily\n[x\\\\y]\n||not U/a.timer systemd 252 rejects this file: bad section header|

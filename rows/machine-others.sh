@@ -6,16 +6,17 @@
 . "$top/rows/lib/program.sh"
 
 # Compares standard error of the commands $1 on the present root with the lines $2, as in program_lines, and their status.
-# What they print isn't compared. All but check and sources report monotonic timers. The root has the name $3, and the options
-# are the others.
+# What they print isn't compared. All but check and sources report monotonic timers, and only quiet has the line of `quiet COUNT`. The
+# root has the name $3, and the options are the others.
 others_are() {
-  local command lines=$2 name=$3 commands=$1 wanted
+  local command lines=$2 name=$3 commands=$1 wanted last
   shift 3
   for command in $commands; do
     case $command in
       plan | upcoming | quiet | downtime | week) program_lines "$lines" ;;
       *) program_lines "$(sed -E 's/(^|,)monotonic [^,]*//g; s/^,//' <<<"$lines")" ;;
     esac
+    [ "$command" != quiet ] || printf '%s' "$last" >>"$work/err.wanted"
     program_run "$command" --root "$machine_root" "$@"
     cp -- "$work/out" "$work/out.wanted"
     program_compare "$command $*, what is reported of '$name'" "$work/out.wanted" "$work/err.wanted" "$wanted"
@@ -31,24 +32,31 @@ others_told() {
   done
 }
 
-# Rows of the texts of files: the timer a.timer and its drop-ins, with `|` between them, after `yes` if it is reported to start
-# by monotonic settings alone. The program reports more about these texts, so only this line is compared.
+# Rows of the texts of files: the timer a.timer and its drop-ins, with `|` between them, after the setting by which it is reported to
+# start alone, those with `+` by which it is reported to start beside its events, or `no`. The program reports more about these texts, so
+# only these lines are compared.
 others_texts() {
-  local wanted texts root number line
+  local keys key texts root number lines wanted last
   local -a list
-  while IFS='|' read -r wanted texts; do
+  while IFS='|' read -r keys texts; do
     IFS='|' read -r -a list <<<"$texts"
     root="*a.timer U/a.timer=${list[0]}"
     for ((number = 1; number < ${#list[@]}; number++)); do
       root+=" E/a.timer.d/$number.conf=${list[number]}"
     done
     program_make "$root"
-    line=
-    [ "$wanted" = no ] || line='monotonic U/a.timer'
-    program_lines "$line"
+    lines=
+    for key in $keys; do
+      case $key in
+        no) ;;
+        +*) lines+=",also U/a.timer ${key#+}" ;;
+        *) lines+=",monotonic U/a.timer $key" ;;
+      esac
+    done
+    program_lines "${lines#,}"
     program_run quiet --since 2024-01-01T00:00:00Z --until 2024-01-01T00:00:01Z --root "$machine_root"
-    sed -i '/^agenda: not planned: .*: starts by /!d' "$work/err"
-    program_compare "a timer that isn't planned: '$texts'" /dev/null "$work/err.wanted" "$status"
+    sed -i -E '/: (also )?starts by [^ ]*=$/!d' "$work/err"
+    program_compare "what else starts a timer: '$texts'" /dev/null "$work/err.wanted" "$status"
   done
 }
 
@@ -65,11 +73,11 @@ ROWS
 
 # All lines in their order, after what is skipped, by each question.
 others_told 'plan upcoming quiet downtime week check sources' <<'ROWS'
-etc/anacrontab C/a.b F/atjobs/a var/spool/at/b home/ann/.config/systemd/user/a.timer root/.config/systemd/user/b.timer *a.timer U/a.timer=[Timer]\nOnBootSec=5|C/a.b bad name,anacron,monotonic U/a.timer,at F/atjobs,at var/spool/at,user home/ann/.config/systemd/user,user root/.config/systemd/user
+etc/anacrontab C/a.b F/atjobs/a var/spool/at/b home/ann/.config/systemd/user/a.timer root/.config/systemd/user/b.timer *a.timer U/a.timer=[Timer]\nOnBootSec=5|C/a.b bad name,anacron,at F/atjobs,at var/spool/at,user home/ann/.config/systemd/user,user root/.config/systemd/user,monotonic U/a.timer,quiet 6
 ROWS
 machine_has_cron=no
 others_told 'plan upcoming quiet downtime week check sources' <<'ROWS'
-etc/anacrontab C/a.b C/a F/atjobs/a root/.config/systemd/user/b.timer *a.timer U/a.timer=[Timer]\nOnBootSec=5|C/a.b bad name,anacron,monotonic U/a.timer,at F/atjobs,user root/.config/systemd/user,cron
+etc/anacrontab C/a.b C/a F/atjobs/a root/.config/systemd/user/b.timer *a.timer U/a.timer=[Timer]\nOnBootSec=5|C/a.b bad name,anacron,at F/atjobs,user root/.config/systemd/user,monotonic U/a.timer,cron,quiet 4
 *a.timer U/a.timer=DAILY|
 ROWS
 machine_has_cron=yes
@@ -80,102 +88,102 @@ U/a.timer=[Timer]\nOnBootSec=5\n U/b@.timer=[Timer]\nOnBootSec=5\n|monotonic U/a
 U/a.timer=[Timer]\nOnBootSec=5\n E/a.timer.d/x.conf=[Timer]\nAccuracySec=1h|monotonic U/a.timer
 ROWS
 
-# A timer that is skipped for another reason isn't reported again; an instance is reported by the file that it is read from.
+# A timer that is skipped for another reason isn't reported again; each instance is reported by the file that it is read from.
 others_told plan <<'ROWS'
 *a.timer E/a.timer>/dev/null U/a.timer=[Timer]\nOnBootSec=5\n|E/a.timer masked
 *a.timer E/a.timer>b.timer E/b.timer=[Timer]\nOnBootSec=5\n|monotonic E/b.timer
 *a@.timer U/a@.timer=[Timer]\nOnBootSec=5\n|monotonic U/a@.timer
-*a@b.timer *a@c.timer U/a@.timer=[Timer]\nOnBootSec=5\n E/a@c.timer.d/x.conf=[Timer]\nOnCalendar=daily|monotonic U/a@.timer
+*a@b.timer *a@c.timer U/a@.timer=[Timer]\nOnBootSec=5\n E/a@c.timer.d/x.conf=[Timer]\nOnCalendar=daily|monotonic U/a@.timer,also U/a@.timer OnBootSec
 *a@b.timer U/a@.timer=[Timer]\n%i=5\n|not U/a@.timer systemd 252 rejects this timer: it has no valid trigger
 *a.timer U/a.timer=[Timer]\nOnBootSec=5\n C/a|monotonic U/a.timer
 ROWS
 
-# Which timers have a monotonic setting and no event: those whose merged text has a value after the last empty one.
+# Which timers have a monotonic setting, and whether they have an event too: in their merged text after the last empty value.
 others_texts <<'ROWS'
-yes|[Timer]\nOnActiveSec=5
-yes|[Timer]\nOnBootSec=5
-yes|[Timer]\nOnStartupSec=5
-yes|[Timer]\nOnUnitActiveSec=5
-yes|[Timer]\nOnUnitInactiveSec=5
-yes|[Timer]\nOnBootSec=5\nOnUnitActiveSec=1d\nAccuracySec=1h\n
+OnActiveSec|[Timer]\nOnActiveSec=5
+OnBootSec|[Timer]\nOnBootSec=5
+OnStartupSec|[Timer]\nOnStartupSec=5
+OnUnitActiveSec|[Timer]\nOnUnitActiveSec=5
+OnUnitInactiveSec|[Timer]\nOnUnitInactiveSec=5
+OnBootSec|[Timer]\nOnBootSec=5\nOnUnitActiveSec=1d\nAccuracySec=1h\n
 no|[Timer]\nOnCalendar=daily
-no|[Timer]\nOnBootSec=5\nOnCalendar=daily
-no|[Timer]\nOnCalendar=daily\nOnBootSec=5
-no|[Timer]\nOnCalendar=x\nOnBootSec=5
-no|[Timer]\nOnClockChange=yes\nOnTimezoneChange=yes
++OnBootSec|[Timer]\nOnBootSec=5\nOnCalendar=daily
++OnBootSec|[Timer]\nOnCalendar=daily\nOnBootSec=5
++OnBootSec|[Timer]\nOnCalendar=x\nOnBootSec=5
++OnClockChange +OnTimezoneChange|[Timer]\nOnClockChange=yes\nOnTimezoneChange=yes
 no|[Timer]\n
 no|OnBootSec=5
 no|OnBootSec=5\n[Timer]\n
 no|[Unit]\nOnBootSec=5\n[Timer]\n
 no|[timer]\nOnBootSec=5
 no|[Timer]\n[Install]\nOnBootSec=5
-yes|[Timer]\n[Install]\n[Timer]\nOnBootSec=5
-yes|[Timer]\n[Install\nOnBootSec=5
-yes|[Timer]\n[Install=]x\nOnBootSec=5
+OnBootSec|[Timer]\n[Install]\n[Timer]\nOnBootSec=5
+no|[Timer]\n[Install\nOnBootSec=5
+no|[Timer]\n[Install=]x\nOnBootSec=5
 no|[Timer]\n[Install=]\nOnBootSec=5
 no|[Timer]\n[]\nOnBootSec=5
 no|[Timer]\n[\xc3\xa9]\nOnBootSec=5
-yes|\x20\t[Timer]\x20\t\n\x20\tOnBootSec\x20\t=\x20\t5\x20\t\n
-yes|[Timer]\r\nOnBootSec=5\r\n
+OnBootSec|\x20\t[Timer]\x20\t\n\x20\tOnBootSec\x20\t=\x20\t5\x20\t\n
+OnBootSec|[Timer]\r\nOnBootSec=5\r\n
 no|[Timer]x\nOnBootSec=5
 no|[Timer\x20]\nOnBootSec=5
 no|[Timer]\nonbootsec=5\nOnBootSecs=5\nXOnBootSec=5\nOn\x20BootSec=5\nOnBootSec\n
 no|[Timer]\n#\x20OnBootSec=5\n;OnBootSec=5\n\x20#OnBootSec=5
-yes|[Timer]\nOnBootSec=#5
-yes|[Timer]\n#\x20OnCalendar=daily\nOnBootSec=5
+no|[Timer]\nOnBootSec=#5
+OnBootSec|[Timer]\n#\x20OnCalendar=daily\nOnBootSec=5
 no|[Timer]\nOnBootSec=5\nOnBootSec=
 no|[Timer]\nOnBootSec=5\nOnCalendar=
 no|[Timer]\nOnBootSec=5\nOnActiveSec=\x20\t
-yes|[Timer]\nOnBootSec=\nOnBootSec=5
-yes|[Timer]\nOnCalendar=daily\nOnBootSec=\nOnBootSec=5
-yes|[Timer]\nOnCalendar=daily\nOnUnitActiveSec=\nOnBootSec=5
+OnBootSec|[Timer]\nOnBootSec=\nOnBootSec=5
+OnBootSec|[Timer]\nOnCalendar=daily\nOnBootSec=\nOnBootSec=5
+OnBootSec|[Timer]\nOnCalendar=daily\nOnUnitActiveSec=\nOnBootSec=5
 no|[Timer]\nOnBootSec=5\nOnBootSec=\nOnCalendar=daily
-yes|[Timer]\nOnBootSec=5\nAccuracySec=\nUnit=\n
+OnBootSec|[Timer]\nOnBootSec=5\nAccuracySec=\nUnit=\n
 ROWS
 
 # Lines that continue: the number of backslashes, comments between them, and empty lines.
 others_texts <<'ROWS'
 no|[Timer]\nOnCalendar=daily\\\nOnBootSec=5
-yes|[Timer]\nOnCalendar=\\\n\nOnBootSec=5
-yes|[Timer]\nPersistent=x\\\\\nOnBootSec=5
+OnBootSec|[Timer]\nOnCalendar=\\\n\nOnBootSec=5
+OnBootSec|[Timer]\nPersistent=x\\\\\nOnBootSec=5
 no|[Timer]\nPersistent=x\\\\\\\nOnBootSec=5
-yes|[Timer]\n\\\nOnBootSec\\\n=5
-yes|[Timer]\n\\\nOnBootSec=\\\n5
+OnBootSec|[Timer]\n\\\nOnBootSec\\\n=5
+OnBootSec|[Timer]\n\\\nOnBootSec=\\\n5
 no|[Timer]\nOnBootSec=\\\n\n5
-yes|[Timer]\nPersistent=x\\\n\nOnBootSec=5
-yes|[Timer]\nPersistent=x\\\n\x20\nOnBootSec=5
+OnBootSec|[Timer]\nPersistent=x\\\n\nOnBootSec=5
+OnBootSec|[Timer]\nPersistent=x\\\n\x20\nOnBootSec=5
 no|[Timer]\nPersistent=x\\\n#\ny\\\n;\nOnBootSec=5
-yes|[Timer]\nPersistent=x\\\x20\nOnBootSec=5
+OnBootSec|[Timer]\nPersistent=x\\\x20\nOnBootSec=5
 no|[Timer]\nPersistent=x\\\r\nOnBootSec=5
-yes|[Timer]\n#\x20x\\\nOnBootSec=5
+OnBootSec|[Timer]\n#\x20x\\\nOnBootSec=5
 no|[Timer]\n\\\\\\\nOnBootSec=5
-yes|[Timer]\n\\\\\nOnBootSec=5
-yes|[Timer]\\\n\nOnBootSec=5
+OnBootSec|[Timer]\n\\\\\nOnBootSec=5
+OnBootSec|[Timer]\\\n\nOnBootSec=5
 no|[Timer]\\\nOnBootSec=5
-yes|[Timer]\nOnBootSec=5\\
+OnBootSec|[Timer]\nOnBootSec=5\\
 no|[Timer]\nOnBootSec=5\nOnBootSec=\\
 ROWS
 
 # Drop-ins: no line and no section goes on in the next file, and an empty value empties what is before it.
 others_texts <<'ROWS'
-yes|[Timer]\n|[Timer]\nOnBootSec=5
-yes|[Timer]\nOnBootSec=5|[Timer]\nAccuracySec=1h
-no|[Timer]\nOnBootSec=5|[Timer]\nOnCalendar=daily
-no|[Timer]\nOnCalendar=daily|[Timer]\nOnBootSec=5
-yes|[Timer]\nOnCalendar=daily|[Timer]\nOnCalendar=\nOnBootSec=5
-yes|[Timer]\nOnCalendar=daily|[Timer]\nOnCalendar=|[Timer]\nOnBootSec=5
-yes|[Timer]\nOnCalendar=daily|OnCalendar=daily|[Timer]\nOnCalendar=\nOnBootSec=5
+OnBootSec|[Timer]\n|[Timer]\nOnBootSec=5
+OnBootSec|[Timer]\nOnBootSec=5|[Timer]\nAccuracySec=1h
++OnBootSec|[Timer]\nOnBootSec=5|[Timer]\nOnCalendar=daily
++OnBootSec|[Timer]\nOnCalendar=daily|[Timer]\nOnBootSec=5
+OnBootSec|[Timer]\nOnCalendar=daily|[Timer]\nOnCalendar=\nOnBootSec=5
+OnBootSec|[Timer]\nOnCalendar=daily|[Timer]\nOnCalendar=|[Timer]\nOnBootSec=5
+OnBootSec|[Timer]\nOnCalendar=daily|OnCalendar=daily|[Timer]\nOnCalendar=\nOnBootSec=5
 no|[Timer]\nOnBootSec=5|[Timer]\nOnBootSec=
 no|[Timer]|OnBootSec=5
-yes|[Timer]\nOnBootSec=5|OnCalendar=daily
-yes|[Timer]\nOnBootSec=5|OnBootSec=
-yes|[Timer]\nOnCalendar=\\|daily\n[Timer]\nOnBootSec=5
-yes|[Timer]\nPersistent=x\\|[Timer]\nOnBootSec=5
+OnBootSec|[Timer]\nOnBootSec=5|OnCalendar=daily
+OnBootSec|[Timer]\nOnBootSec=5|OnBootSec=
+OnBootSec|[Timer]\nOnCalendar=\\|daily\n[Timer]\nOnBootSec=5
+OnBootSec|[Timer]\nPersistent=x\\|[Timer]\nOnBootSec=5
 ROWS
 
 # Bytes that agenda rejects: it skips the whole timer, and reports that. A byte 0 is a character like others.
 others_texts <<'ROWS'
-yes|[Timer]\nOnBootSec=5\n#\xc3\xa9\xe2\x82\xac\xf0\x9f\x98\x80\xed\x9f\xbf\xee\x80\x80\xf4\x8f\xbf\xbf
+OnBootSec|[Timer]\nOnBootSec=5\n#\xc3\xa9\xe2\x82\xac\xf0\x9f\x98\x80\xed\x9f\xbf\xee\x80\x80\xf4\x8f\xbf\xbf
 no|[Timer]\nOnBootSec=5\n#\xe9
 no|[Timer]\nOnBootSec=5\n#\xc3
 no|[Timer]\nOnBootSec=5\n#\xc0\x80
@@ -186,10 +194,10 @@ no|[Timer]\nOnBootSec=5\n#\xf4\x90\x80\x80
 no|[Timer]\nOnBootSec=5\n#\xf5\x80\x80\x80
 no|[Timer]\nOnBootSec=5\n#\xe2\xc3\xa9\x82\xac
 no|[Timer]\nOnBootSec=5|[Timer]\n#\xff
-yes|[Timer]\nOnBootSec=5\n#\0
+OnBootSec|[Timer]\nOnBootSec=5\n#\0
 no|[Timer]\nOnBoot\0Sec=5
-no|[Timer]\nOnBootSec=5\nOnCalendar=\0
-yes|[Timer]\nOnBootSec=\0
++OnBootSec|[Timer]\nOnBootSec=5\nOnCalendar=\0
+no|[Timer]\nOnBootSec=\0
 ROWS
 
 # A timer of the largest size, and one of a byte more, which is an error; then the same of a merged text.
@@ -215,24 +223,24 @@ program_compare "a merged timer that is too large" "$work/out.wanted" "$work/err
 # What is skipped as not readable changes a status of 0 to 1. Nothing else that is skipped does.
 others_told 'plan upcoming quiet downtime week check sources' <<'ROWS'
 etc/crontab|
-C/a/|C/a not readable
-S/a>nowhere|S/a not readable
-T/a! T/b|T/a not readable
-F/a>a|F/a not readable
-etc/crontab etc/cron.d|etc/cron.d not readable
+C/a/|C/a not readable,quiet 1
+S/a>nowhere|S/a not readable,quiet 1
+T/a! T/b|T/a not readable,quiet 1
+F/a>a|F/a not readable,quiet 1
+etc/crontab etc/cron.d|etc/cron.d not readable,quiet 1
 *f.timer|D/f.timer no such timer
 D/b.timer|D/b.timer no link
 E/x.target.requires>y|
-*c@.timer *d@e\\.timer|D/c@.timer no such timer,D/d@e\\.timer escape
+*c@.timer *d@e\\.timer|D/c@.timer no such timer,D/d@e\\.timer escape,quiet 1
 *g.timer U/g.timer>h.timer|D/g.timer no such timer
-etc/crontab C/system|C/system name taken
+etc/crontab C/system|C/system name taken,quiet 1
 C/a.b|C/a.b bad name
 *a.timer U/a.timer=|U/a.timer masked
-*a.timer U/a.timer!|U/a.timer not readable
-etc/anacrontab F/atjobs/a root/.config/systemd/user/a.timer|anacron,at F/atjobs,user root/.config/systemd/user
+*a.timer U/a.timer!|U/a.timer not readable,quiet 1
+etc/anacrontab F/atjobs/a root/.config/systemd/user/a.timer|anacron,at F/atjobs,user root/.config/systemd/user,quiet 3
 ROWS
 others_told 'plan upcoming quiet sources' <<'ROWS'
-*a.timer U/a.timer=[Timer]\nOnCalendar=daily\n U/a.timer.d/x.conf/|U/a.timer.d/x.conf not readable
+*a.timer U/a.timer=[Timer]\nOnCalendar=daily\n U/a.timer.d/x.conf/|U/a.timer.d/x.conf not readable,quiet 1
 ROWS
 
 # ---- layouts of distributions

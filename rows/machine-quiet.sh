@@ -24,13 +24,22 @@ quiet_says 00:00 24:00 '2 h: the longest is 0 s, and these cover the most: t.tim
 # without delays it covers its two seconds, at which the job of the crontab starts too
 quiet_says 00:00 24:00 '30 min: the longest is 12 min, and these cover the most: c:1 (2 min), t.timer (2 s)' --nominal
 
-# A job that is left out covers nothing. A name that no job has leaves none out.
+# A job that is left out covers nothing.
 quiet_says 00:00 24:00 '30 min: the longest is 12 min, and these cover the most: c:1 (2 min)' --except t.timer
 quiet_says 00:00 24:00 '30 min: the longest is 0 s, and these cover the most: t.timer (24 h)' --except c:1 --except c:1
-quiet_says 00:00 24:00 '30 min: the longest is 0 s, and these cover the most: t.timer (24 h), c:1 (2 min)' --except t --except ''
+quiet_says 00:00 24:00 '30 min: the longest is 12 min, and these cover the most: c:1 (2 min)' --only 'c*'
 printf '%sT00:00:00Z\t2026-03-03T00:00:00Z\t86400\n' "$quiet_day" >"$work/out.wanted"
 program_run quiet --root root --utc --text --since "$quiet_day" --until 2026-03-03 --except c:1 --except t.timer
 program_compare 'quiet without its jobs' "$work/out.wanted" /dev/null 0
+program_run quiet --root root --utc --text --since "$quiet_day" --until 2026-03-03 --only '*' --except c --except 't.time?'
+program_compare 'quiet without its jobs, by patterns' "$work/out.wanted" /dev/null 0
+
+# The name of a timer has its suffix, and no name is empty or has a space.
+for quiet_name in t '' 'c 1'; do
+  printf "agenda: --except: nothing is named '%s' [NothingNamed]\n" "$quiet_name" >"$work/err.wanted"
+  program_run quiet --root root --utc --except "$quiet_name"
+  program_compare "quiet --except '$quiet_name'" /dev/null "$work/err.wanted" 1
+done
 
 # Windows that overlap count once: from 06:00:00 to 06:25:00 are 1,501 seconds, and then there is a gap until 07:00:00.
 program_make '*t.timer U/t.timer=[Timer]\nOnCalendar=*-*-*\x2006:00,10\nRandomizedDelaySec=15min\nAccuracySec=0\n'

@@ -95,7 +95,7 @@ ROWS
 runs_error='root/etc/cron.d/a:1: error: expected NAME=VALUE, or five fields and a command [BadSetting]'
 program_answers <<ROWS
 C/a=A\n@daily\x20root\x20a|upcoming --utc --after 2024-01-01|2024-01-02T00:00:00Z>a:2>root a|$runs_error|
-C/a=A\n@daily\x20root\x20a|quiet --utc --since 2024-01-01|2024-01-01T00:00:00Z>2024-01-02T00:00:00Z>86400|$runs_error|
+C/a=A\n@daily\x20root\x20a|quiet --utc --since 2024-01-01|2024-01-01T00:00:00Z>2024-01-02T00:00:00Z>86400|$runs_error|quiet 1
 C/a=A\n@daily\x20root\x20a|upcoming --strict||$runs_error|
 C/a=A\n@daily\x20root\x20a|plan --utc --since 2024-01-01 --until 2024-01-03 --limit 1||$runs_error;agenda: more than 1 starts: give a shorter span, or --limit N [TooMany]|
 C/a/ S/b=@daily\x20x|upcoming --utc --after 2024-01-01|2024-01-02T00:00:00Z>b:1>x||C/a not readable
@@ -111,18 +111,19 @@ machine_by=()
 
 # ---- files that may not be read
 
-# Rows of a root, files or directories in it without permissions, and what is skipped. The status is 1 if that isn't readable,
-# also of check and with --strict.
+# Rows of a root, files or directories in it without permissions, and what is skipped, with the last line of quiet. The status is 1 if
+# that isn't readable, also of check and with --strict.
 runs_locked() {
-  local root locked lines words path wanted
+  local root locked lines words path wanted last
   while IFS='|' read -r root locked lines; do
     program_make "$root"
     for path in $locked; do
       machine_path "$path"
       chmod 000 "$machine_folder/root/$path"
     done
-    program_lines "$lines"
     for words in plan 'plan --strict' upcoming quiet downtime week scripts check sources; do
+      program_lines "$lines"
+      [ "$words" != quiet ] || printf '%s' "$last" >>"$work/err.wanted"
       # shellcheck disable=SC2086
       program_run $words --root root
       cp -- "$work/out" "$work/out.wanted"
@@ -134,10 +135,10 @@ runs_locked() {
 
 if machine_as_nobody && "${machine_by[@]}" "$machine_folder/whole/agenda" --version >/dev/null 2>&1; then
   runs_locked <<'ROWS'
-etc/crontab C/a S/b *a.timer U/a.timer=DAILY *b.timer U/b.timer|etc/crontab C/a S/b U/b.timer|etc/crontab not readable,C/a not readable,S/b not readable,U/b.timer not readable
+etc/crontab C/a S/b *a.timer U/a.timer=DAILY *b.timer U/b.timer|etc/crontab C/a S/b U/b.timer|etc/crontab not readable,C/a not readable,S/b not readable,U/b.timer not readable,quiet 4
 C/a.b S/a~|C/a.b S/a~|C/a.b bad name,S/a~ bad name
-C/a S/a S/a.user|S/a|S/a not readable
-*a@b.timer *a@c.timer U/a@.timer|U/a@.timer|U/a@.timer not readable
+C/a S/a S/a.user|S/a|S/a not readable,quiet 1
+*a@b.timer *a@c.timer U/a@.timer|U/a@.timer|U/a@.timer not readable,quiet 1
 *a.timer E/a.timer= U/a.timer|E/a.timer|E/a.timer masked
 ROWS
 else
@@ -221,8 +222,8 @@ F/atjobs/a root/.config/systemd/user/a.timer|quiet|3
 etc/crontab|sources,plan|3
 etc/localtime>UTC|check,upcoming|3
 S/u=A|upcoming|3
-etc/anacrontab|plan x,sources x,clear x,changes,--frob|2
-etc/anacrontab|quiet --since frob,plan --zone Nowhere/At_all,clear --until frob|1
+etc/anacrontab|plan x,sources x,clear x,changes,--frob,clear --until frob|2
+etc/anacrontab|quiet --since frob,plan --zone Nowhere/At_all|1
 C/.b|sources,plan --utc --since 2024-01-01,check,plan --table --utc --since 2024-01-01,clear,changes before,week --since 2024-01-01 --until 2024-01-03|0
 ROWS
 

@@ -63,7 +63,7 @@ V/b.timer=DAILY V/b.service=DOES W/timers.target.wants/b.timer>/usr/lib/systemd/
 A Q/c.timer=DAILY Q/c.service=DOES Q/default.target.wants/c.timer>../c.timer BOTH|ann/a.timer=P/a.timer bob/c.timer=Q/c.timer|
 A Q/c.timer=DAILY Q/c.service=DOES Q/default.target.wants/c.timer>../c.timer ANN|ann/a.timer=P/a.timer|not planned: root/home/bob/.config/systemd/user/c.timer: user bob does not linger
 root/.config/systemd/user/r.timer=DAILY root/.config/systemd/user/default.target.wants/r.timer>../r.timer||not planned: root/root/.config/systemd/user/r.timer: user root does not linger
-home/eve/.config/systemd/user/e.timer=DAILY home/eve/.config/systemd/user/default.target.wants/e.timer>../e.timer var/lib/systemd/linger/eve||not planned: root/home/eve/.config/systemd/user: user timers
+home/eve/.config/systemd/user/e.timer=DAILY home/eve/.config/systemd/user/default.target.wants/e.timer>../e.timer var/lib/systemd/linger/eve||unknown: root/home/eve/.config/systemd/user: user timers
 ROWS
 
 # ---- which files count
@@ -133,6 +133,8 @@ upcoming --after 2024-01-01T00:00:00Z --utc --text|2024-01-02T00:00:00Z>z.timer>
 upcoming --after 2024-01-01T00:00:00Z --utc --json|{"start":"2024-01-02T00:00:00Z","job":"z.timer","path":"root/usr/lib/systemd/system/z.timer","line":null,"run":"z.service"};{"start":"2024-01-02T00:00:00Z","job":"ann/a.timer","path":"root/home/ann/.config/systemd/user/a.timer","line":null,"user":"ann","run":"a.service"}
 upcoming --after 2024-01-01T00:00:00Z --utc --text --except ann/a.timer|2024-01-02T00:00:00Z>z.timer>z.service
 describe --utc --text --except z.timer|ann/a.timer>at 00:00>ann a.service
+describe --utc --text --only ann/*|ann/a.timer>at 00:00>ann a.service
+describe --utc --text --except *a.timer|z.timer>at 00:00>z.service
 sources|timer>z.timer>root/usr/lib/systemd/system/z.timer;user-timer>ann/a.timer>root/home/ann/.config/systemd/user/a.timer
 sources --json|{"kind":"timer","name":"z.timer","path":"root/usr/lib/systemd/system/z.timer"};{"kind":"user-timer","name":"ann/a.timer","path":"root/home/ann/.config/systemd/user/a.timer"}
 ROWS

@@ -8,24 +8,6 @@
 # shellcheck source=/dev/null
 . "$top/rows/lib/pictures.sh"
 
-# Rows from standard input: a root, arguments, the lines of the answer, with `;` for a newline and `>` for a tab, the errors, with `;` between
-# them, the lines of program_lines before these, and the status.
-windows_answers() {
-  local root words lines errors reports code text
-  while IFS='|' read -r root words lines errors reports code; do
-    program_make "$root"
-    text=${lines//;/$'\n'}
-    text=${text//>/$tab}
-    printf '%s' "${text:+$text$'\n'}" >"$work/out.wanted"
-    program_lines "$reports"
-    text=${errors//;/$'\n'}
-    printf '%s' "${text:+$text$'\n'}" >>"$work/err.wanted"
-    IFS=' ' read -r -a words <<<"$words"
-    program_run "${words[@]}" --root root
-    program_compare "${words[*]} of '$root'" "$work/out.wanted" "$work/err.wanted" "$code"
-  done
-}
-
 # The present root answers the arguments $1, with bars between them, with what is on standard input, and nothing on standard error. $2 is the
 # status.
 windows_is() {
@@ -56,7 +38,7 @@ windows_terminal() {
 # ---- downtime
 
 # Times are local, or in UTC. A job of @reboot has the end of the span twice.
-windows_answers <<'ROWS'
+program_answers <<'ROWS'
 etc/crontab=0\x202\x20*\x20*\x20*\x20root\x20a\n@reboot\x20root\x20b\n *p.timer U/p.timer=[Timer]\nOnCalendar=03:00\nPersistent=yes\nAccuracySec=1us\n|downtime --utc --since 2024-01-01T01:30:00Z --until 2024-01-01T04:00:00Z|2024-01-01T02:00:00Z>2024-01-01T02:00:00Z>1>lost>system:1>root a;2024-01-01T03:00:00Z>2024-01-01T03:00:00Z>1>made up>p.timer>p.service;2024-01-01T04:00:00Z>2024-01-01T04:00:00Z>1>at boot>system:2>root b|||0
 etc/crontab=0\x202\x20*\x20*\x20*\x20root\x20a\n@reboot\x20root\x20b\n|downtime --since 2024-01-01T01:30:00Z --upto 2024-01-01T04:00:00Z|2024-01-01T02:00:00+00:00>2024-01-01T02:00:00+00:00>1>lost>system:1>root a;2024-01-01T04:00:00+00:00>2024-01-01T04:00:00+00:00>1>at boot>system:2>root b|||0
 etc/localtime=CET etc/crontab=30\x202\x20*\x20*\x20*\x20root\x20a\n@reboot\x20root\x20b\n|downtime --since 2024-03-30T23:00:00Z --until 2024-03-31T22:00:00Z|2024-03-31T03:00:00+02:00>2024-03-31T03:00:00+02:00>1>lost>system:1>root a;2024-04-01T00:00:00+02:00>2024-04-01T00:00:00+02:00>1>at boot>system:2>root b|||0
@@ -64,10 +46,11 @@ etc/localtime=CET S/u=*/30\x20*\x20*\x20*\x20*\x20a\n|downtime --since 2025-10-2
 x/|downtime --since 2024-01-01 --until 2024-01-02||||0
 S/u=@daily\x20a\n|downtime --since 2024-01-01T00:00:01Z --until 2024-01-01T01:00:00Z||||0
 S/u=@daily\x20a\n@daily\x20b\n|downtime --utc --since 2024-01-01 --until 2024-01-02 --except u:1|2024-01-01T00:00:00Z>2024-01-01T00:00:00Z>1>lost>u:2>b|||0
+S/u=@daily\x20a\n@daily\x20b\n|downtime --utc --since 2024-01-01 --until 2024-01-02 --only *:2|2024-01-01T00:00:00Z>2024-01-01T00:00:00Z>1>lost>u:2>b|||0
 ROWS
 
 # JSON has the local times after those in UTC, and the file of each job and its line there.
-windows_answers <<'ROWS'
+program_answers <<'ROWS'
 etc/localtime=CET etc/crontab=30\x202\x20*\x20*\x20*\x20root\x20a\n@reboot\x20root\x20b\n *p.timer U/p.timer=[Timer]\nOnCalendar=04:00\nPersistent=yes\n|downtime --json --since 2024-03-30T23:00:00Z --until 2024-03-31T22:00:00Z|{"first":"2024-03-31T01:00:00Z","first_local":"2024-03-31T03:00:00+02:00","last":"2024-03-31T01:00:00Z","last_local":"2024-03-31T03:00:00+02:00","starts":1,"then":"lost","job":"system:1","path":"root/etc/crontab","line":1,"user":"root","run":"a"};{"first":"2024-03-31T02:00:00Z","first_local":"2024-03-31T04:00:00+02:00","last":"2024-03-31T02:00:00Z","last_local":"2024-03-31T04:00:00+02:00","starts":1,"then":"made up","job":"p.timer","path":"root/usr/lib/systemd/system/p.timer","line":null,"run":"p.service"};{"first":"2024-03-31T22:00:00Z","first_local":"2024-04-01T00:00:00+02:00","last":"2024-03-31T22:00:00Z","last_local":"2024-04-01T00:00:00+02:00","starts":1,"then":"at boot","job":"system:2","path":"root/etc/crontab","line":2,"user":"root","run":"b"}|||0
 S/u=#\n*/20\x20*\x20*\x20*\x20*\x20a\n|downtime --json --utc --since 2024-01-01T00:00:00Z --until 2024-01-01T01:00:00Z|{"first":"2024-01-01T00:00:00Z","last":"2024-01-01T00:40:00Z","starts":3,"then":"lost","job":"u:2","path":"root/var/spool/cron/crontabs/u","line":2,"run":"a"}|||0
 S/u=@daily\x20a\n|downtime --json --since 2024-01-01T00:00:01Z --until 2024-01-01T01:00:00Z||||0
@@ -75,7 +58,7 @@ ROWS
 
 # The last boolean counts, that of a drop-in too. The accuracy of timers that set none is that of systemd's configuration. Only enabled timers
 # are planned, unless --all is given.
-windows_answers <<'ROWS'
+program_answers <<'ROWS'
 *p.timer U/p.timer=[Timer]\nOnCalendar=03:00\nPersistent=yes\n E/p.timer.d/x.conf=[Timer]\nPersistent=no\n|downtime --utc --since 2024-01-01 --until 2024-01-02|2024-01-01T03:00:00Z>2024-01-01T03:00:00Z>1>lost>p.timer>p.service|||0
 *p.timer U/p.timer=[Timer]\nOnCalendar=03:00\n E/p.timer.d/x.conf=[Timer]\nPersistent=true\nPersistent=\n|downtime --utc --since 2024-01-01 --until 2024-01-02|2024-01-01T03:00:00Z>2024-01-01T03:00:00Z>1>made up>p.timer>p.service|||0
 *a.timer U/a.timer=DAILY etc/systemd/system.conf=[Manager]\nDefaultTimerAccuracySec=1h\n|downtime --utc --since 2024-01-01T01:00:00Z --until 2024-01-01T02:00:00Z|2024-01-01T00:00:00Z>2024-01-01T00:00:00Z>1>lost>a.timer>a.service|||0
@@ -85,7 +68,7 @@ U/a.timer=DAILY|downtime --all --utc --since 2024-01-01 --until 2024-01-02|2024-
 ROWS
 
 # What is skipped is reported before the answer. With --strict the first error stops it.
-windows_answers <<'ROWS'
+program_answers <<'ROWS'
 C/a/ S/u=@daily\x20a\n|downtime --utc --since 2024-01-01 --until 2024-01-02|2024-01-01T00:00:00Z>2024-01-01T00:00:00Z>1>lost>u:1>a||C/a not readable|1
 S/u=x\n@daily\x20a\n S/v=@daily\x20b\n|downtime --utc --since 2024-01-01 --until 2024-01-02|2024-01-01T00:00:00Z>2024-01-01T00:00:00Z>1>lost>v:1>b|root/var/spool/cron/crontabs/u:1: error: expected NAME=VALUE, or five fields and a command [BadSetting]|not S/u cron ignores this file because of line 1|1
 S/u=x\n@daily\x20a\n S/v=@daily\x20b\n|downtime --strict --utc --since 2024-01-01 --until 2024-01-02||root/var/spool/cron/crontabs/u:1: error: expected NAME=VALUE, or five fields and a command [BadSetting]|not S/u cron ignores this file because of line 1|1
@@ -133,7 +116,7 @@ TABLE
 # ---- clear
 
 # The line of the first start has local times, as plan has them, and the status is 1.
-windows_answers <<'ROWS'
+program_answers <<'ROWS'
 S/u=0\x202\x20*\x20*\x20*\x20a\n|clear --since 2024-01-01T02:01:00Z --until 2024-01-02T02:00:00Z||||0
 S/u=0\x202\x20*\x20*\x20*\x20a\n|clear --since 2024-01-01T02:00:59Z --until 2024-01-02T02:00:00Z|2024-01-01T02:00:00+00:00>2024-01-01T02:00:00+00:00>u:1>a|||1
 S/u=0\x202\x20*\x20*\x20*\x20a\n|clear --since 2024-01-01T02:01:00Z --until 2024-01-02T02:00:01Z|2024-01-02T02:00:00+00:00>2024-01-02T02:00:00+00:00>u:1>a|||1
@@ -150,30 +133,31 @@ x/|clear --since 1970-01-01T00:00:00Z --until 3000-01-01T00:00:00Z||||0
 S/u=*\x20*\x20*\x20*\x20*\x20a\n|clear --utc --since 1970-01-01T00:00:00Z --until 3000-01-01T00:00:00Z|1970-01-01T00:00:00Z>1970-01-01T00:00:00Z>u:1>a|||1
 ROWS
 
-# If something is invalid or can't be read, the span isn't clear, whether or not another job starts.
-windows_answers <<'ROWS'
-S/u=x\n@daily\x20a\n|clear --since 2024-01-01T00:01:00Z --until 2024-01-01T01:00:00Z||root/var/spool/cron/crontabs/u:1: error: expected NAME=VALUE, or five fields and a command [BadSetting];agenda: not clear: some files could not be read|not S/u cron ignores this file because of line 1|1
-C/a/ S/u=@daily\x20a\n|clear --since 2024-01-01T00:01:00Z --until 2024-01-01T01:00:00Z||agenda: not clear: some files could not be read|C/a not readable|1
-C/a/|clear --since 2024-01-01 --until 2024-01-02||agenda: not clear: some files could not be read|C/a not readable|1
-C/a/ S/u=@daily\x20a\n|clear --utc --since 2024-01-01 --until 2024-01-02|2024-01-01T00:00:00Z>2024-01-01T00:00:00Z>u:1>a|agenda: not clear: some files could not be read|C/a not readable|1
-*a.timer U/a.timer=[Timer]\nOnCalendar=24:00\n|clear --since 2024-01-01 --until 2024-01-02||root/usr/lib/systemd/system/a.timer:2: error: hour in '24:00': out of range 0-23 [OutOfRange];agenda: not clear: some files could not be read||1
-C/a/ S/u=@daily\x20a\n|clear --strict --since 2024-01-01T00:01:00Z --until 2024-01-01T01:00:00Z||agenda: not clear: some files could not be read|C/a not readable|1
+# If something is invalid or can't be read, the span isn't known to be clear, unless a daemon ignores the whole file. If a job starts,
+# nothing more is said.
+program_answers <<'ROWS'
+S/u=x\n@daily\x20a\n|clear --since 2024-01-01T00:01:00Z --until 2024-01-01T01:00:00Z||root/var/spool/cron/crontabs/u:1: error: expected NAME=VALUE, or five fields and a command [BadSetting]|not S/u cron ignores this file because of line 1|0
+C/a/ S/u=@daily\x20a\n|clear --since 2024-01-01T00:01:00Z --until 2024-01-01T01:00:00Z|||C/a not readable,clear 1|4
+C/a/|clear --since 2024-01-01 --until 2024-01-02|||C/a not readable,clear 1|4
+C/a/ S/u=@daily\x20a\n|clear --utc --since 2024-01-01 --until 2024-01-02|2024-01-01T00:00:00Z>2024-01-01T00:00:00Z>u:1>a||C/a not readable|1
+*a.timer U/a.timer=[Timer]\nOnCalendar=24:00\n|clear --since 2024-01-01 --until 2024-01-02||root/usr/lib/systemd/system/a.timer:2: error: hour in '24:00': out of range 0-23 [OutOfRange]|clear 1|4
+C/a/ S/u=@daily\x20a\n|clear --strict --since 2024-01-01T00:01:00Z --until 2024-01-01T01:00:00Z|||C/a not readable,clear 1|4
 ROWS
 
 # With --strict an error stops the answer, and nothing is said about it.
-windows_answers <<'ROWS'
-S/u=x\n@daily\x20a\n|clear --strict --since 2024-01-01T00:01:00Z --until 2024-01-01T01:00:00Z||root/var/spool/cron/crontabs/u:1: error: expected NAME=VALUE, or five fields and a command [BadSetting]|not S/u cron ignores this file because of line 1|1
+program_answers <<'ROWS'
+S/u=x\n@daily\x20a\n|clear --strict --since 2024-01-01T00:01:00Z --until 2024-01-01T01:00:00Z||root/var/spool/cron/crontabs/u:1: error: expected NAME=VALUE, or five fields and a command [BadSetting]|not S/u cron ignores this file because of line 1|4
 ROWS
 
-# What is skipped on purpose, and what isn't planned, leaves the span clear.
-windows_answers <<'ROWS'
+# What is skipped on purpose, and what starts nothing, leaves the span clear. What starts at times that files don't tell doesn't.
+program_answers <<'ROWS'
 *a.timer E/a.timer= U/a.timer|clear --since 2024-01-01 --until 2024-01-02|||E/a.timer masked|0
-*a.timer U/a.timer=[Timer]\nOnBootSec=5\n|clear --since 2024-01-01 --until 2024-01-02|||monotonic U/a.timer|0
-etc/anacrontab|clear --since 2024-01-01 --until 2024-01-02|||anacron|0
-etc/localtime/ S/u=@daily\x20a\n|clear --since 2024-01-01T00:01:00Z --until 2024-01-02|||zone|0
+*a.timer U/a.timer=[Timer]\nOnBootSec=5\n|clear --since 2024-01-01 --until 2024-01-02|||monotonic U/a.timer,clear 1|4
+etc/anacrontab|clear --since 2024-01-01 --until 2024-01-02|||anacron,clear 1|4
+etc/localtime/ S/u=@daily\x20a\n|clear --since 2024-01-01T00:01:00Z --until 2024-01-02|||zone,clear 1|4
 ROWS
 machine_has_cron=no
-windows_answers <<'ROWS'
+program_answers <<'ROWS'
 S/u=@daily\x20a\n|clear --since 2024-01-01T00:01:00Z --until 2024-01-02|||cron|0
 ROWS
 machine_has_cron=yes
@@ -189,7 +173,7 @@ printf 'agenda 2\t2024-01-01T00:00:00Z\t2024-01-01T01:00:00Z\t0\n' >"$machine_fo
 printf 'agenda 2\t2024-01-01T00:00:00Z\t2024-01-01T01:00:00Z\t0\nx\n' >"$machine_folder/wrong"
 
 # Times are local, or in UTC. Jobs are compared by when they start and what they run, so one may move to another file.
-windows_answers <<'ROWS'
+program_answers <<'ROWS'
 S/u=0\x202\x20*\x20*\x20*\x20a\n|changes before||||0
 S/u=#\n0\x202\x20*\x20*\x20*\x20a\n|changes before --utc||||0
 S/v=@reboot\x20b\n0\x202\x20*\x20*\x20*\x20a\n|changes before||||0
@@ -210,6 +194,7 @@ S/u=0\x202\x20*\x20*\x20*\x20a\n U/a.timer=DAILY|changes before||||0
 S/u=0\x202\x20*\x20*\x20*\x20a\n U/a.timer=DAILY|changes before --all|+>2024-01-01T00:00:00+00:00>a.timer>a.service|||1
 S/u=0\x202\x20*\x20*\x20*\x20a\n|changes before --except u:1|->2024-01-01T02:00:00+00:00>u:1>a|||1
 S/u=0\x202\x20*\x20*\x20*\x20a\n S/v=0\x203\x20*\x20*\x20*\x20a\n|changes before --except v:1||||0
+S/u=0\x202\x20*\x20*\x20*\x20a\n S/v=0\x203\x20*\x20*\x20*\x20a\n|changes before --only u||||0
 S/u=0\x203\x20*\x20*\x20*\x20a\n|changes before --json|{"change":"-","start":"2024-01-01T02:00:00Z","local":"2024-01-01T02:00:00+00:00","job":"u:1","run":"a"};{"change":"+","start":"2024-01-01T03:00:00Z","local":"2024-01-01T03:00:00+00:00","job":"u:1","run":"a"}|||1
 etc/crontab=0\x203\x20*\x20*\x20*\x20root\x20a\n S/u=0\x202\x20*\x20*\x20*\x20a\n|changes before --json --utc|{"change":"+","start":"2024-01-01T03:00:00Z","job":"system:1","run":"root a"}|||1
 ROWS
@@ -241,7 +226,7 @@ TABLE
 
 # What is skipped is reported, and its status is 1, also if nothing changed. The jobs of a crontab that cron ignores are gone. With --strict an
 # error stops the answer.
-windows_answers <<'ROWS'
+program_answers <<'ROWS'
 S/u=x\n0\x202\x20*\x20*\x20*\x20a\n|changes before|->2024-01-01T02:00:00+00:00>u:1>a|root/var/spool/cron/crontabs/u:1: error: expected NAME=VALUE, or five fields and a command [BadSetting]|not S/u cron ignores this file because of line 1|1
 S/u=0\x202\x20*\x20*\x20*\x20a\n *a.timer U/a.timer=[Timer]\nOnCalendar=24:00\n|changes before||root/usr/lib/systemd/system/a.timer:2: error: hour in '24:00': out of range 0-23 [OutOfRange]||1
 S/u=0\x203\x20*\x20*\x20*\x20a\n *a.timer U/a.timer=[Timer]\nOnCalendar=24:00\n|changes before|->2024-01-01T02:00:00+00:00>u:1>a;+>2024-01-01T03:00:00+00:00>u:1>a|root/usr/lib/systemd/system/a.timer:2: error: hour in '24:00': out of range 0-23 [OutOfRange]||1
@@ -300,18 +285,19 @@ windows_picture 'week|--except|system:1|--since|2025-03-28 12:00|--until|2025-03
   '0 starts from 2025-03-28T12:00:00+01:00 to 2025-03-28T12:00:00+01:00, local' <<'DAYS'
 all days|________________________|0
 DAYS
-windows_answers <<'ROWS'
+program_answers <<'ROWS'
 etc/localtime=CET S/u=*/30\x202,4\x20*\x20*\x20*\x20a\n|week --json --since 2025-10-26 --until 2025-10-27|{"day":"2025-10-26","hour":2,"starts":4};{"day":"2025-10-26","hour":4,"starts":2}|||0
 etc/localtime=CET S/u=*/30\x202,4\x20*\x20*\x20*\x20a\n|week --json --utc --since 2025-10-26 --until 2025-10-27|{"day":"2025-10-26","hour":2,"starts":2};{"day":"2025-10-26","hour":4,"starts":2}|||0
 *a.timer U/a.timer=[Timer]\nOnCalendar=06:00\nRandomizedDelaySec=3h\n|week --json --since 2024-01-01T06:00:01Z --until 2024-01-02T06:00:01Z|{"day":"2024-01-02","hour":6,"starts":1}|||0
 S/u=@reboot\x20a\n|week --json --since 2024-01-01 --until 2024-01-02||||0
+S/u=@daily\x20a\n S/v=0\x203\x20*\x20*\x20*\x20a\n|week --json --since 2024-01-01 --until 2024-01-02 --only v|{"day":"2024-01-01","hour":3,"starts":1}|||0
 C/a/ S/u=@daily\x20a\n|week --json --since 2024-01-01 --until 2024-01-02|{"day":"2024-01-01","hour":0,"starts":1}||C/a not readable|1
 S/u=x\n|week --json --strict --since 2024-01-01 --until 2024-01-02||root/var/spool/cron/crontabs/u:1: error: expected NAME=VALUE, or five fields and a command [BadSetting]|not S/u cron ignores this file because of line 1|1
 ROWS
 
 # ---- errors
 
-# Rows from standard input: arguments, and the line on standard error. Nothing is printed.
+# Rows from standard input: arguments, and the line on standard error. Nothing is printed, and the status is $1.
 windows_errors() {
   local words line
   program_make 'S/u=*\x20*\x20*\x20*\x20*\x20a\n'
@@ -319,13 +305,16 @@ windows_errors() {
     echo "$line" >"$work/err.wanted"
     read -r -a words <<<"$words"
     program_run "${words[@]}" --root root
-    program_compare "${words[*]}" /dev/null "$work/err.wanted" 1
+    program_compare "${words[*]}" /dev/null "$work/err.wanted" "$1"
   done
 }
 
-# The zone comes first, then the times, their order, the numbers, and the limit of starts, which clear doesn't have.
+# The zone comes first, then the times, their order, the numbers, and the limit of starts, which clear doesn't have. Of clear the status 1
+# says that a job may start.
 for windows_command in downtime clear week; do
-  windows_errors <<ROWS
+  windows_status=1
+  [ "$windows_command" != clear ] || windows_status=2
+  windows_errors "$windows_status" <<ROWS
 $windows_command --zone Nowhere/At_all --since x --planners 0|agenda: zone 'Nowhere/At_all': no such zone [NoSuchZone]
 $windows_command --since x --until y --planners 0|agenda: --since: not a time: 'x' (such as 'tomorrow 02:00', '+8h', '2026-12-01 22:00') [BadTime]
 $windows_command --since 2024-01-01 --until 90min|agenda: --until: not a time: '90min' (such as 'tomorrow 02:00', '+8h', '2026-12-01 22:00') [BadTime]
@@ -336,7 +325,7 @@ $windows_command --planners 9 --room 0|agenda: --planners: not from 1 to 8: '9' 
 $windows_command --room 1025|agenda: --room: not from 1 to 1024: '1025' [BadSize]
 ROWS
 done
-windows_errors <<'ROWS'
+windows_errors 1 <<'ROWS'
 changes before --zone Nowhere/At_all|agenda: zone 'Nowhere/At_all': no such zone [NoSuchZone]
 changes wrong --planners 0|agenda: wrong:2: not a line of agenda plan [BadBaseline]
 changes before --planners 0|agenda: --planners: not from 1 to 8: '0' [BadSize]
@@ -351,8 +340,8 @@ downtime --table --limit 59 --since 2024-01-01T00:00:00Z --until 2024-01-01T01:0
 week --limit 59 --since 2024-01-01T00:00:00Z --until 2024-01-01T01:00:00Z|agenda: more than 59 starts: give a shorter span, or --limit N [TooMany]
 week --since 2024-01-01T00:00:00Z --until 2026-01-01T00:00:00Z|agenda: more than 1000000 starts: give a shorter span, or --limit N [TooMany]
 ROWS
-windows_answers <<'ROWS'
-S/u=x\n|clear --planners 0||agenda: --planners: not from 1 to 8: '0' [BadSize]||1
+program_answers <<'ROWS'
+S/u=x\n|clear --planners 0||agenda: --planners: not from 1 to 8: '0' [BadSize]||2
 S/u=x\n|changes wrong||agenda: wrong:2: not a line of agenda plan [BadBaseline]||1
 S/u=x\n|changes nothing --planners 0||agenda: nothing: Device||3
 S/u=x\n|changes root||agenda: root: Device||3
@@ -422,7 +411,7 @@ if ! program_still 1743246000; then
 fi
 
 # The span is from now for 24 hours if it isn't given. Of a week it is from the start of today for 7 times 24 hours.
-windows_answers <<'ROWS'
+program_answers <<'ROWS'
 S/u=0\x2011\x2029\x203\x20*\x20a\n0\x2011\x2030\x203\x20*\x20b\n59\x2010\x2030\x203\x20*\x20c\n|downtime --utc|2025-03-29T11:00:00Z>2025-03-29T11:00:00Z>1>lost>u:1>a;2025-03-30T10:59:00Z>2025-03-30T10:59:00Z>1>lost>u:3>c|||0
 S/u=@reboot\x20a\n|downtime --utc|2025-03-30T11:00:00Z>2025-03-30T11:00:00Z>1>at boot>u:1>a|||0
 S/u=@reboot\x20a\n|downtime --utc --until +90min|2025-03-29T12:30:00Z>2025-03-29T12:30:00Z>1>at boot>u:1>a|||0

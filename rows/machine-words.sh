@@ -72,28 +72,30 @@ Prints when each job of a machine starts next
 Usage: agenda machine upcoming [OPTIONS]
 
 Options:
-      --root <DIR>    Read the machine whose root directory is DIR [default: /]
-      --all           Include timers that aren't enabled
-      --after <TIME>  Only starts later than this time, such as
-                      'tomorrow 02:00', '2026-12-01 22:00' or +8h [default: now]
-      --zone <ZONE>   The time zone of the rules, such as Europe/Berlin,
-                      or the path of a TZif file; that of the machine
-                      if it isn't given
-      --utc           Read the rules in UTC, like --zone UTC, and print
-                      times in UTC
-      --except <JOB>  Ignore the job with this name, as it is printed;
-                      may be given more than once
-      --idle          Include idle jobs, whose commands do nothing on the
-                      machine; otherwise they are only reported
-      --delays        Show each start with the latest time at which it may
-                      happen (RandomizedDelaySec= and AccuracySec=)
-      --strict        Let an error in a file stop the answer, instead of
-                      skipping what is invalid
-      --table         Print a table, also if standard output isn't a terminal
-      --text          Print text, also on a terminal
-      --json          Print each line as a JSON object; agenda(1)
-                      describes the keys
-  -h, --help          Print help
+      --root <DIR>        Read the machine whose root directory is DIR [default: /]
+      --all               Include timers that aren't enabled
+      --after <TIME>      Only starts later than this time, such as
+                          'tomorrow 02:00', '2026-12-01 22:00' or +8h [default: now]
+      --zone <ZONE>       The time zone of the rules, such as Europe/Berlin,
+                          or the path of a TZif file; that of the machine
+                          if it isn't given
+      --utc               Read the rules in UTC, like --zone UTC, and print
+                          times in UTC
+      --except <PATTERN>  Ignore the jobs and crontabs with such a name: in it
+                          * stands for any bytes and ? for one byte; may be
+                          given more than once
+      --only <PATTERN>    Ignore all other jobs; may be given more than once
+      --idle              Include idle jobs, whose commands do nothing on the
+                          machine; otherwise they are only reported
+      --delays            Show each start with the latest time at which it may
+                          happen (RandomizedDelaySec= and AccuracySec=)
+      --strict            Let an error in a file stop the answer, instead of
+                          skipping what is invalid
+      --table             Print a table, also if standard output isn't a terminal
+      --text              Print text, also on a terminal
+      --json              Print each line as a JSON object; agenda(1)
+                          describes the keys
+  -h, --help              Print help
 
 Prints what 'agenda upcoming' prints, about the files that 'agenda machine sources' lists.
 Times are those of the machine's clocks, with their offset from UTC. Standard error has a
@@ -146,24 +148,26 @@ Arguments:
           or a calendar event of systemd; put it in quotes
 
 Options:
-      --root <DIR>    Read the machine whose root directory is DIR [default: /]
-      --all           Include timers that aren't enabled
-      --zone <ZONE>   The time zone of the rules, such as Europe/Berlin,
-                      or the path of a TZif file; that of the machine
-                      if it isn't given
-      --utc           Read the rules in UTC, like --zone UTC, and print
-                      times in UTC
-      --except <JOB>  Ignore the job with this name, as it is printed;
-                      may be given more than once
-      --idle          Include idle jobs, whose commands do nothing on the
-                      machine; otherwise they are only reported
-      --strict        Let an error in a file stop the answer, instead of
-                      skipping what is invalid
-      --table         Print a table, also if standard output isn't a terminal
-      --text          Print text, also on a terminal
-      --json          Print each line as a JSON object; agenda(1)
-                      describes the keys
-  -h, --help          Print help
+      --root <DIR>        Read the machine whose root directory is DIR [default: /]
+      --all               Include timers that aren't enabled
+      --zone <ZONE>       The time zone of the rules, such as Europe/Berlin,
+                          or the path of a TZif file; that of the machine
+                          if it isn't given
+      --utc               Read the rules in UTC, like --zone UTC, and print
+                          times in UTC
+      --except <PATTERN>  Ignore the jobs and crontabs with such a name: in it
+                          * stands for any bytes and ? for one byte; may be
+                          given more than once
+      --only <PATTERN>    Ignore all other jobs; may be given more than once
+      --idle              Include idle jobs, whose commands do nothing on the
+                          machine; otherwise they are only reported
+      --strict            Let an error in a file stop the answer, instead of
+                          skipping what is invalid
+      --table             Print a table, also if standard output isn't a terminal
+      --text              Print text, also on a terminal
+      --json              Print each line as a JSON object; agenda(1)
+                          describes the keys
+  -h, --help              Print help
 
 Prints what 'agenda describe' prints, about the files that 'agenda machine sources' lists,
 or, with a RULE, about this rule alone. Standard error has a line for each file that is
@@ -183,31 +187,33 @@ Prints what a machine misses while it is down, and what then
 Usage: agenda machine downtime [OPTIONS]
 
 Options:
-      --root <DIR>    Read the machine whose root directory is DIR [default: /]
-      --all           Include timers that aren't enabled
-      --since <TIME>  The start of the span, such as 'tomorrow 02:00',
-                      '2026-12-01 22:00' or +8h [default: now]
-      --until <TIME>  The end of the span, written in the same way, which
-                      isn't in it; 06:00 and +8h are counted from its
-                      start [default: +24h] [alias: --upto]
-      --zone <ZONE>   The time zone of the rules, such as Europe/Berlin,
-                      or the path of a TZif file; that of the machine
-                      if it isn't given
-      --utc           Read the rules in UTC, like --zone UTC, and print
-                      times in UTC
-      --except <JOB>  Ignore the job with this name, as it is printed;
-                      may be given more than once
-      --idle          Include idle jobs, whose commands do nothing on the
-                      machine; otherwise they are only reported
-      --strict        Let an error in a file stop the answer, instead of
-                      skipping what is invalid
-      --table         Print a table, also if standard output isn't a terminal
-      --text          Print text, also on a terminal
-      --json          Print each line as a JSON object; agenda(1)
-                      describes the keys
-      --limit <N>     The maximum number of starts, from 1 to 1000000;
-                      more are an error [default: 1000000]
-  -h, --help          Print help
+      --root <DIR>        Read the machine whose root directory is DIR [default: /]
+      --all               Include timers that aren't enabled
+      --since <TIME>      The start of the span, such as 'tomorrow 02:00',
+                          '2026-12-01 22:00' or +8h [default: now]
+      --until <TIME>      The end of the span, written in the same way, which
+                          isn't in it; 06:00 and +8h are counted from its
+                          start [default: +24h] [alias: --upto]
+      --zone <ZONE>       The time zone of the rules, such as Europe/Berlin,
+                          or the path of a TZif file; that of the machine
+                          if it isn't given
+      --utc               Read the rules in UTC, like --zone UTC, and print
+                          times in UTC
+      --except <PATTERN>  Ignore the jobs and crontabs with such a name: in it
+                          * stands for any bytes and ? for one byte; may be
+                          given more than once
+      --only <PATTERN>    Ignore all other jobs; may be given more than once
+      --idle              Include idle jobs, whose commands do nothing on the
+                          machine; otherwise they are only reported
+      --strict            Let an error in a file stop the answer, instead of
+                          skipping what is invalid
+      --table             Print a table, also if standard output isn't a terminal
+      --text              Print text, also on a terminal
+      --json              Print each line as a JSON object; agenda(1)
+                          describes the keys
+      --limit <N>         The maximum number of starts, from 1 to 1000000;
+                          more are an error [default: 1000000]
+  -h, --help              Print help
 
 Tuning (the output stays the same):
       --planners <N>  How many threads search, from 1 to 8 [default: 2]
@@ -228,35 +234,37 @@ Succeeds if no job of a machine starts in a span
 Usage: agenda machine clear [OPTIONS]
 
 Options:
-      --root <DIR>    Read the machine whose root directory is DIR [default: /]
-      --all           Include timers that aren't enabled
-      --since <TIME>  The start of the span, such as 'tomorrow 02:00',
-                      '2026-12-01 22:00' or +8h [default: now]
-      --until <TIME>  The end of the span, written in the same way, which
-                      isn't in it; 06:00 and +8h are counted from its
-                      start [default: +24h] [alias: --upto]
-      --zone <ZONE>   The time zone of the rules, such as Europe/Berlin,
-                      or the path of a TZif file; that of the machine
-                      if it isn't given
-      --utc           Read the rules in UTC, like --zone UTC, and print
-                      times in UTC
-      --except <JOB>  Ignore the job with this name, as it is printed;
-                      may be given more than once
-      --idle          Include idle jobs, whose commands do nothing on the
-                      machine; otherwise they are only reported
-      --nominal       Don't count the delays of timers
-      --strict        Let an error in a file stop the answer, instead of
-                      skipping what is invalid
-  -h, --help          Print help
+      --root <DIR>        Read the machine whose root directory is DIR [default: /]
+      --all               Include timers that aren't enabled
+      --since <TIME>      The start of the span, such as 'tomorrow 02:00',
+                          '2026-12-01 22:00' or +8h [default: now]
+      --until <TIME>      The end of the span, written in the same way, which
+                          isn't in it; 06:00 and +8h are counted from its
+                          start [default: +24h] [alias: --upto]
+      --zone <ZONE>       The time zone of the rules, such as Europe/Berlin,
+                          or the path of a TZif file; that of the machine
+                          if it isn't given
+      --utc               Read the rules in UTC, like --zone UTC, and print
+                          times in UTC
+      --except <PATTERN>  Ignore the jobs and crontabs with such a name: in it
+                          * stands for any bytes and ? for one byte; may be
+                          given more than once
+      --only <PATTERN>    Ignore all other jobs; may be given more than once
+      --idle              Include idle jobs, whose commands do nothing on the
+                          machine; otherwise they are only reported
+      --nominal           Don't count the delays of timers
+      --strict            Let an error in a file stop the answer, instead of
+                          skipping what is invalid
+  -h, --help              Print help
 
 Tuning (the output stays the same):
       --planners <N>  How many threads search, from 1 to 8 [default: 2]
       --room <N>      How many messages of each thread may wait,
                       from 1 to 1024 [default: 16]
 
-Prints nothing if no start of a job may fall into the span, and the exit status is 0.
-Otherwise it prints the first one, and the exit status is 1. It is also 1 if an error is
-skipped, or if a file can't be read.
+Exit status 0: no start of a job may fall into the span, and nothing is unknown. 1: a start
+may, and the first one is printed. 4: none is known to, but a job may start at times that
+files don't tell, as standard error says. 2: an argument is rejected.
 
 Example:
   agenda machine clear --until +90min && reboot
@@ -270,26 +278,28 @@ Arguments:
   <BEFORE>  A file with what 'plan' printed, as text
 
 Options:
-      --root <DIR>    Read the machine whose root directory is DIR [default: /]
-      --all           Include timers that aren't enabled
-      --zone <ZONE>   The time zone of the rules, such as Europe/Berlin,
-                      or the path of a TZif file; that of the machine
-                      if it isn't given
-      --utc           Read the rules in UTC, like --zone UTC, and print
-                      times in UTC
-      --except <JOB>  Ignore the job with this name, as it is printed;
-                      may be given more than once
-      --idle          Include idle jobs, whose commands do nothing on the
-                      machine; otherwise they are only reported
-      --strict        Let an error in a file stop the answer, instead of
-                      skipping what is invalid
-      --table         Print a table, also if standard output isn't a terminal
-      --text          Print text, also on a terminal
-      --json          Print each line as a JSON object; agenda(1)
-                      describes the keys
-      --limit <N>     The maximum number of starts, from 1 to 1000000;
-                      more are an error [default: 1000000]
-  -h, --help          Print help
+      --root <DIR>        Read the machine whose root directory is DIR [default: /]
+      --all               Include timers that aren't enabled
+      --zone <ZONE>       The time zone of the rules, such as Europe/Berlin,
+                          or the path of a TZif file; that of the machine
+                          if it isn't given
+      --utc               Read the rules in UTC, like --zone UTC, and print
+                          times in UTC
+      --except <PATTERN>  Ignore the jobs and crontabs with such a name: in it
+                          * stands for any bytes and ? for one byte; may be
+                          given more than once
+      --only <PATTERN>    Ignore all other jobs; may be given more than once
+      --idle              Include idle jobs, whose commands do nothing on the
+                          machine; otherwise they are only reported
+      --strict            Let an error in a file stop the answer, instead of
+                          skipping what is invalid
+      --table             Print a table, also if standard output isn't a terminal
+      --text              Print text, also on a terminal
+      --json              Print each line as a JSON object; agenda(1)
+                          describes the keys
+      --limit <N>         The maximum number of starts, from 1 to 1000000;
+                          more are an error [default: 1000000]
+  -h, --help              Print help
 
 Tuning (the output stays the same):
       --planners <N>  How many threads search, from 1 to 8 [default: 2]
@@ -312,29 +322,31 @@ Shows how many jobs of a machine start in each hour
 Usage: agenda machine week [OPTIONS]
 
 Options:
-      --root <DIR>    Read the machine whose root directory is DIR [default: /]
-      --all           Include timers that aren't enabled
-      --since <TIME>  The start of the span, such as 'tomorrow 02:00',
-                      '2026-12-01 22:00' or +8h [default: today]
-      --until <TIME>  The end of the span, written in the same way, which
-                      isn't in it; 06:00 and +8h are counted from its
-                      start [default: +7d] [alias: --upto]
-      --zone <ZONE>   The time zone of the rules, such as Europe/Berlin,
-                      or the path of a TZif file; that of the machine
-                      if it isn't given
-      --utc           Read the rules in UTC, like --zone UTC, and print
-                      times in UTC
-      --except <JOB>  Ignore the job with this name, as it is printed;
-                      may be given more than once
-      --idle          Include idle jobs, whose commands do nothing on the
-                      machine; otherwise they are only reported
-      --strict        Let an error in a file stop the answer, instead of
-                      skipping what is invalid
-      --json          Print each line as a JSON object; agenda(1)
-                      describes the keys
-      --limit <N>     The maximum number of starts, from 1 to 1000000;
-                      more are an error [default: 1000000]
-  -h, --help          Print help
+      --root <DIR>        Read the machine whose root directory is DIR [default: /]
+      --all               Include timers that aren't enabled
+      --since <TIME>      The start of the span, such as 'tomorrow 02:00',
+                          '2026-12-01 22:00' or +8h [default: today]
+      --until <TIME>      The end of the span, written in the same way, which
+                          isn't in it; 06:00 and +8h are counted from its
+                          start [default: +7d] [alias: --upto]
+      --zone <ZONE>       The time zone of the rules, such as Europe/Berlin,
+                          or the path of a TZif file; that of the machine
+                          if it isn't given
+      --utc               Read the rules in UTC, like --zone UTC, and print
+                          times in UTC
+      --except <PATTERN>  Ignore the jobs and crontabs with such a name: in it
+                          * stands for any bytes and ? for one byte; may be
+                          given more than once
+      --only <PATTERN>    Ignore all other jobs; may be given more than once
+      --idle              Include idle jobs, whose commands do nothing on the
+                          machine; otherwise they are only reported
+      --strict            Let an error in a file stop the answer, instead of
+                          skipping what is invalid
+      --json              Print each line as a JSON object; agenda(1)
+                          describes the keys
+      --limit <N>         The maximum number of starts, from 1 to 1000000;
+                          more are an error [default: 1000000]
+  -h, --help              Print help
 
 Tuning (the output stays the same):
       --planners <N>  How many threads search, from 1 to 8 [default: 2]
@@ -359,22 +371,24 @@ Lists the scripts that run-parts starts, with the next start of each
 Usage: agenda machine scripts [OPTIONS]
 
 Options:
-      --root <DIR>    Read the machine whose root directory is DIR [default: /]
-      --all           Include timers that aren't enabled
-      --after <TIME>  Only starts later than this time, such as
-                      'tomorrow 02:00', '2026-12-01 22:00' or +8h [default: now]
-      --zone <ZONE>   The time zone of the rules, such as Europe/Berlin,
-                      or the path of a TZif file; that of the machine
-                      if it isn't given
-      --utc           Read the rules in UTC, like --zone UTC, and print
-                      times in UTC
-      --except <JOB>  Ignore the job with this name, as it is printed;
-                      may be given more than once
-      --idle          Include idle jobs, whose commands do nothing on the
-                      machine; otherwise they are only reported
-      --strict        Let an error in a file stop the answer, instead of
-                      skipping what is invalid
-  -h, --help          Print help
+      --root <DIR>        Read the machine whose root directory is DIR [default: /]
+      --all               Include timers that aren't enabled
+      --after <TIME>      Only starts later than this time, such as
+                          'tomorrow 02:00', '2026-12-01 22:00' or +8h [default: now]
+      --zone <ZONE>       The time zone of the rules, such as Europe/Berlin,
+                          or the path of a TZif file; that of the machine
+                          if it isn't given
+      --utc               Read the rules in UTC, like --zone UTC, and print
+                          times in UTC
+      --except <PATTERN>  Ignore the jobs and crontabs with such a name: in it
+                          * stands for any bytes and ? for one byte; may be
+                          given more than once
+      --only <PATTERN>    Ignore all other jobs; may be given more than once
+      --idle              Include idle jobs, whose commands do nothing on the
+                          machine; otherwise they are only reported
+      --strict            Let an error in a file stop the answer, instead of
+                          skipping what is invalid
+  -h, --help              Print help
 
 Prints a line for each script that a job of the machine starts by run-parts, such as those
 in /etc/cron.daily: the name of the job, the time of its next start and the path of the
@@ -557,8 +571,8 @@ upcoming|--after|now|tomorrow|02:00 => error: unexpected argument 'tomorrow' (fo
 upcoming|22:00|--all => error: unexpected argument '22:00' (for a time, use --after)
 upcoming|--since=x => error: unexpected argument '--since' found
 upcoming|--after=x|--after=x => error: the argument '--after <TIME>' cannot be used multiple times
-upcoming|--except => error: a value is required for '--except <JOB>' but none was supplied
---except => error: a value is required for '--except <JOB>' but none was supplied
+upcoming|--except => error: a value is required for '--except <PATTERN>' but none was supplied
+--except => error: a value is required for '--except <PATTERN>' but none was supplied
 upcoming|--nominal => error: unexpected argument '--nominal' found
 upcoming|--limit=1 => error: unexpected argument '--limit' found
 plan|tomorrow 02:00 => error: unexpected argument 'tomorrow 02:00' (for a time, use --since or --until)
@@ -571,9 +585,10 @@ plan|--tomorrow => error: unexpected argument '--tomorrow' found
 quiet|sat => error: unexpected argument 'sat' (for a time, use --since or --until)
 quiet|--least|2h|sun|04:00 => error: unexpected argument 'sun' (for a time, use --since or --until)
 plan|--after=x => error: unexpected argument '--after' found
-plan|--except|a|--except => error: a value is required for '--except <JOB>' but none was supplied
+plan|--except|a|--except => error: a value is required for '--except <PATTERN>' but none was supplied
+plan|--only|a|--only => error: a value is required for '--only <PATTERN>' but none was supplied
 plan|--except|a|b => error: unexpected argument 'b' (for a time, use --since or --until)
-quiet|--except => error: a value is required for '--except <JOB>' but none was supplied
+quiet|--except => error: a value is required for '--except <PATTERN>' but none was supplied
 plan|--since => error: a value is required for '--since <TIME>' but none was supplied
 plan|--until=x|--upto=x => error: the argument '--until <TIME>' cannot be used multiple times
 plan|--least=1 => error: unexpected argument '--least' found
@@ -581,7 +596,9 @@ plan|--local => error: unexpected argument '--local' found
 plan|--limit=x => error: invalid value 'x' for '--limit <N>': invalid digit found in string
 quiet|--delays => error: unexpected argument '--delays' found
 check|--except=a => error: unexpected argument '--except' found
+check|--only=a => error: unexpected argument '--only' found
 sources|--except=a => error: unexpected argument '--except' found
+sources|--only=a => error: unexpected argument '--only' found
 check|--idle => error: unexpected argument '--idle' found
 sources|--idle => error: unexpected argument '--idle' found
 plan|--idle|--idle => error: the argument '--idle' cannot be used multiple times
@@ -610,7 +627,7 @@ downtime|--keep-going => error: unexpected argument '--keep-going' found
 downtime|--event-zones => error: unexpected argument '--event-zones' found
 downtime|--crontab=a => error: unexpected argument '--crontab' found
 downtime|--limit=x => error: invalid value 'x' for '--limit <N>': invalid digit found in string
-downtime|--except => error: a value is required for '--except <JOB>' but none was supplied
+downtime|--except => error: a value is required for '--except <PATTERN>' but none was supplied
 downtime|--strict|--strict => error: the argument '--strict' cannot be used multiple times
 downtime|--version => error: unexpected argument '--version' found
 clear|+90min => error: unexpected argument '+90min' (for a time, use --since or --until)
@@ -657,7 +674,7 @@ scripts|tomorrow => error: unexpected argument 'tomorrow' (for a time, use --aft
 scripts|--after|now|tomorrow => error: unexpected argument 'tomorrow' (for a time, use --after)
 scripts|--since=x => error: unexpected argument '--since' found
 scripts|--after=x|--after=x => error: the argument '--after <TIME>' cannot be used multiple times
-scripts|--except => error: a value is required for '--except <JOB>' but none was supplied
+scripts|--except => error: a value is required for '--except <PATTERN>' but none was supplied
 scripts|--delays => error: unexpected argument '--delays' found
 scripts|--table => error: unexpected argument '--table' found
 scripts|--text => error: unexpected argument '--text' found
@@ -671,6 +688,7 @@ next|daily|--count|2|tomorrow => error: unexpected argument 'tomorrow' (for a ti
 next|daily|--root=. => error: unexpected argument '--root' found
 next|daily|--all => error: unexpected argument '--all' found
 next|daily|--except=a => error: unexpected argument '--except' found
+next|daily|--only=a => error: unexpected argument '--only' found
 next|daily|--idle => error: unexpected argument '--idle' found
 next|daily|--strict => error: unexpected argument '--strict' found
 next|daily|--delays => error: unexpected argument '--delays' found

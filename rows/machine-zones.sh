@@ -55,17 +55,17 @@ etc/localtime>/usr/share/zoneinfo/No/Where usr/share/zoneinfo/No/Where>../Else u
 etc>/opt/e opt/e/localtime>/usr/share/zoneinfo/No/Where usr/share/zoneinfo/No/Where=EAST|No/Where|EAST|
 ROWS
 
-# A zone's file below the root that is invalid: the error has the name of the zone, or else the path of etc/localtime.
-program_answers <<'ROWS'
-etc/localtime=x S/u=x\n|upcoming||agenda: zone 'root/etc/localtime': not a TZif file [BadZone]|
-etc/localtime=|check||agenda: zone 'root/etc/localtime': not a TZif file [BadZone]|
-etc/localtime=TZif2|plan --since x||agenda: zone 'root/etc/localtime': not a TZif file [BadZone]|
-etc/localtime>/usr/share/zoneinfo/Europe/Oslo usr/share/zoneinfo/Europe/Oslo=x|quiet||agenda: zone 'Europe/Oslo': not a TZif file [BadZone]|
-etc/localtime>/usr/share/zoneinfo/No/Where usr/share/zoneinfo/No/Where=|check||agenda: zone 'No/Where': not a TZif file [BadZone]|
+# A zone's file below the root that is no TZif file, or too large, tells no zone.
+zone_roots <<'ROWS'
+etc/localtime=x|UTC|UTC|zone
+etc/localtime=|UTC|UTC|zone
+etc/localtime=TZif2|UTC|UTC|zone
+etc/localtime>/usr/share/zoneinfo/Europe/Oslo usr/share/zoneinfo/Europe/Oslo=x|UTC|UTC|zone
+etc/localtime>/usr/share/zoneinfo/No/Where usr/share/zoneinfo/No/Where=|UTC|UTC|zone
 ROWS
 program_make 'etc/localtime=x'
 head -c 1048577 /dev/zero >"$machine_folder/$machine_root/etc/localtime"
-program_answers_are upcoming '' "agenda: zone 'root/etc/localtime': larger than 1048576 bytes [TooLarge]" '' 'a large etc/localtime'
+zone_is root UTC UTC zone 'a large etc/localtime'
 
 # --zone and --utc come before etc/localtime. The name is that of the option.
 printf '%b' "$machine_east" >"$machine_folder/east"

@@ -908,6 +908,7 @@ $command|$span|--delays => error: unexpected argument '--delays' found
 $command|$span|--table => error: unexpected argument '--table' found
 $command|$span|--utc => error: unexpected argument '--utc' found
 $command|$span|--except=a => error: unexpected argument '--except' found
+$command|$span|--only=a => error: unexpected argument '--only' found
 $command|$span|--idle => error: unexpected argument '--idle' found
 $command|$span|--cron=@daily => error: unexpected argument '--cron' found
 $command|$span|--calendar=daily => error: unexpected argument '--calendar' found
@@ -961,6 +962,7 @@ changes|before|--nominal => error: unexpected argument '--nominal' found
 changes|before|--table => error: unexpected argument '--table' found
 changes|before|--utc => error: unexpected argument '--utc' found
 changes|before|--except=a => error: unexpected argument '--except' found
+changes|before|--only=a => error: unexpected argument '--only' found
 changes|before|--idle => error: unexpected argument '--idle' found
 changes|before|--version => error: unexpected argument '--version' found
 changes|before|--planners=x => error: invalid value 'x' for '--planners <N>': invalid digit found in string

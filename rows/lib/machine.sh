@@ -26,6 +26,7 @@ machine_folder=$work/machine
 machine_by=()
 machine_root=root
 machine_has_cron=yes
+machine_has_system=yes
 machine_daemon=usr/sbin/cron
 machine_owner=
 declare -A machine_short=(
@@ -97,6 +98,15 @@ machine_close() {
   [ -L "$1" ] || [ ! -f "$1" ] || chmod 600 -- "$1"
 }
 
+# Makes the directory usr of the root $1, if that has neither etc nor usr: without one it is rejected.
+machine_add_usr() {
+  local name
+  for name in etc usr; do
+    if [ -e "$1/$name" ] || [ -L "$1/$name" ]; then return; fi
+  done
+  mkdir -- "$1/usr"
+}
+
 # Makes a new root from the description $1.
 machine_make() {
   local entry
@@ -109,6 +119,7 @@ machine_make() {
     machine_entry "$entry"
   done
   [ "$machine_has_cron" = no ] || machine_entry "$machine_daemon"
+  [ "$machine_has_system" = no ] || machine_add_usr "$machine_folder/$machine_root"
 }
 
 # Sets `tzif` to the escaped text of a TZif file: $1 seconds east of UTC, with the name $2, in 1970, and the

@@ -126,34 +126,42 @@ program_compare() {
 # Writes to the file err.wanted what $1 means, with commas between its entries, in their order: a path and a reason for
 # what is skipped, or one of these:
 #
-#   wanted PATH UNIT    only UNIT wants the timer, and isn't reached
+#   wanted PATH UNIT    only UNIT wants the timer, and isn't reached: it may start it
 #   missing PATH UNIT   the timer isn't planned, because its unit is missing
 #   mask PATH UNIT      the same, because its unit is masked
 #   idle PATH UNIT      the same, because its unit has no command
 #   not PATH WHY        cron ignores the crontab, for WHY; PATH may end in `:LINE`. In WHY `;` is a comma
-#   anacron, monotonic PATH, at PATH, user PATH    jobs that aren't planned
+#   zoned PATH:LINE     the line comes after CRON_TZ=
+#   monotonic PATH KEY  the timer starts by KEY= alone, or by OnBootSec= if KEY is missing
+#   also PATH KEY       the timer also starts by KEY=
+#   anacron, at PATH, user PATH    jobs that aren't planned
 #   cron                no cron daemon
 #   zone                the zone is unknown
+#   clear COUNT, quiet COUNT    so many things are unknown: the last line, for which `last` is set
 #
-# Sets `wanted` to the status: 1 if something can't be read, otherwise 0.
+# Sets `wanted` to the status: 1 if something can't be read, otherwise 0. Sets `last` to the last line, with its newline, or to
+# nothing: it comes after errors.
 program_lines() {
   local entry line path why text
   local -a entries
   wanted=0
+  last=
   : >"$work/err.wanted"
   IFS=, read -r -a entries <<<"$1"
   for entry in "${entries[@]}"; do
     read -r line path why <<<"$entry"
     case $line in
-      wanted) why="wanted by $why alone, which the boot does not start" line=skipped ;;
+      wanted) why="may be started by $why" line=unknown: ;;
       missing) why="its unit $why is missing" line='not planned:' ;;
       mask) why="its unit $why is masked" line='not planned:' ;;
       idle) why="its unit $why has no ExecStart=" line='not planned:' ;;
       not) why=${why//;/,} line='not planned:' ;;
-      anacron) path=etc/anacrontab why='anacron starts jobs by days since they ran' line='not planned:' ;;
-      monotonic) why='starts by OnBootSec= or the like' line='not planned:' ;;
-      at) why='jobs of at' line='not planned:' ;;
-      user) why='user timers' line='not planned:' ;;
+      zoned) why='after CRON_TZ=, which agenda does not read' line=unknown: ;;
+      anacron) path=etc/anacrontab why='anacron starts jobs by days since they ran' line=unknown: ;;
+      monotonic) why="starts by ${why:-OnBootSec}=" line=unknown: ;;
+      also) why="also starts by $why=" line=unknown: ;;
+      at) why='jobs of at' line=unknown: ;;
+      user) why='user timers' line=unknown: ;;
       cron)
         program_shown "$machine_root"
         line="no cron daemon below $text: crontabs start nothing" path=
@@ -161,6 +169,12 @@ program_lines() {
       zone)
         program_shown "$machine_root"
         line="the zone of $text is unknown: rules are read as UTC" path=
+        ;;
+      clear | quiet)
+        text='jobs may start'
+        [ "$path" != 1 ] || text='job may start'
+        last="agenda: not known to be $line: $path $text at times that files don't tell; --except NAME leaves one out"$'\n'
+        continue
         ;;
       *)
         why="$path${why:+ $why}" path=$line line=skipped
@@ -212,7 +226,7 @@ program_listing() {
 # Compares the sources of the present root with $1, and its lines with $2. The root has the name $3, and the options are the
 # others.
 program_is() {
-  local wanted name=$3
+  local wanted last name=$3
   program_listing "$1"
   program_lines "$2"
   shift 3
@@ -234,27 +248,28 @@ program_sources() {
 }
 
 # Compares what the present root answers to the arguments $1 with the lines $2, in which `;` is a newline and `>` a tab, the
-# errors $3, with `;` between them, and the lines $4 as in program_lines. The root has the name $5.
+# errors $3, with `;` between them, and the lines $4 as in program_lines. The root has the name $5. The status is $6, or, if that is
+# missing, 1 if there is an error or something can't be read, and otherwise 0.
 program_answers_are() {
-  local wanted errors words
+  local wanted last errors words
   local text=${2//;/$'\n'}
   text=${text//>/$tab}
   printf '%s' "${text:+$text$'\n'}" >"$work/out.wanted"
   program_lines "$4"
   errors=${3//;/$'\n'}
-  printf '%s' "${errors:+$errors$'\n'}" >>"$work/err.wanted"
+  printf '%s%s' "${errors:+$errors$'\n'}" "$last" >>"$work/err.wanted"
   [ -z "$errors" ] || wanted=1
   IFS=' ' read -r -a words <<<"$1"
   program_run "${words[@]}" --root root
-  program_compare "$1 of '$5'" "$work/out.wanted" "$work/err.wanted" "$wanted"
+  program_compare "$1 of '$5'" "$work/out.wanted" "$work/err.wanted" "${6:-$wanted}"
 }
 
-# Rows from standard input: a root, arguments, and the fields of program_answers_are.
+# Rows from standard input: a root, arguments, and the fields of program_answers_are, with the status at the end if it is there.
 program_answers() {
-  local root words lines errors reports
-  while IFS='|' read -r root words lines errors reports; do
+  local root words lines errors reports code
+  while IFS='|' read -r root words lines errors reports code; do
     program_make "$root"
-    program_answers_are "$words" "$lines" "$errors" "$reports" "$root"
+    program_answers_are "$words" "$lines" "$errors" "$reports" "$root" "$code"
   done
 }
 

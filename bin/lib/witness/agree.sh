@@ -186,6 +186,26 @@ agree_on_timers() {
   awk -f "$parts/agree-timers-judge.awk" file=1 "$agreed/names" file=2 "$agreed/agenda" file=3 "$agreed/systemd" \
     file=4 "$root.log" file=5 "$agreed/answers" >"$agreed/verdicts"
   tell_agreement timer "$timers" "timers, agenda beside $(systemd-analyze --version | head -n 1)"
+  agree_on_triggers
+}
+
+# Compares what else starts the timers of the directory $agreed with what agenda reports of a machine that has their units.
+agree_on_triggers() {
+  local name machine=$work/agree/machine units=$work/agree/machine/usr/lib/systemd/system wrong
+  mkdir -p -- "$units" && cp -- "$agreed"/*.timer "$agreed/default.target" "$units/"
+  while IFS= read -r name; do
+    [ -e "$units/$name" ] || printf '[Service]\nExecStart=/bin/true\n' >"$units/$name"
+  done < <(sed -n 's/^\t\tUnit: //p' "$agreed/systemd" | grep -v / | sort -u)
+  "$program" machine plan --root "$machine" --since 2024-01-01 --until 2024-01-01 2>"$agreed/reports" >/dev/null </dev/null
+  awk -f "$parts/triggers-judge.awk" file=1 "$agreed/systemd" file=2 "$agreed/reports" >"$agreed/triggers"
+  echo "what else starts a timer: $(wc -l <"$agreed/triggers") timers"
+  table_of <"$agreed/triggers"
+  grep -q '^unknown' "$agreed/triggers" || tell "no timer has a trigger"
+  count "the triggers of made timers"
+  wrong=$(grep -c '^wrong' "$agreed/triggers")
+  passed=$((passed + $(wc -l <"$agreed/triggers") - wrong))
+  [ "$wrong" = 0 ] || tell "$(grep '^wrong' "$agreed/triggers" | cut -f 2 | head -n "$most_shown")"
+  count "what agenda reports of each trigger"
 }
 
 # Compares crontabs about which `check` is silent with cron, whose version is $1.

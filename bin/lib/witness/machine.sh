@@ -83,13 +83,13 @@ compare_machine() {
   templates=$(grep -c '@[.]timer$' "$work/wishes")
   plan_machine
   echo "the packages as one machine: $(wc -l <"$work/all") sources, of which $wishes timers are wished for, $templates of them by a template; \
-$(cat "$work/all.left" "$work/wished.left" | grep '^agenda: skipped ' | sort -u | wc -l) files are left out; a day has $planned starts"
+$(cat "$work/all.left" "$work/wished.left" | grep -E '^agenda: (skipped|unknown:) ' | sort -u | wc -l) files are left out; a day has $planned starts"
 }
 
 # Lets agenda plan the first day of the month of all of them.
 plan_machine() {
   "$program" machine plan --root "$machine" --all --since "$since" \
-    >"$work/planned" 2>"$work/planned.told" </dev/null || tell "the plan of a day: status $?, $(grep -vE '^agenda: (skipped|not planned:|no cron daemon) ' "$work/planned.told")"
+    >"$work/planned" 2>"$work/planned.told" </dev/null || tell "the plan of a day: status $?, $(grep -vE '^agenda: (skipped|unknown:|not planned:|no cron daemon) ' "$work/planned.told")"
   planned=$(($(wc -l <"$work/planned") - 1))
   [ "$planned" -gt 0 ] || tell "the plan of a day has no starts"
   count "a day of the packages as one machine"

@@ -1,7 +1,8 @@
 -- What follows if `clear` ends with status 0.
-use Rattle.std.proofs.Common.{◌≡◌, ◌∙◌, ℕ, Bool, true, false, List, [], ◌∷◌, Option, None, Some, Result, Ok, Err, ap, refl, sym, subst}
-use Rattle.std.specs.Prelude.{◌&&◌, ◌==◌, if◌then◌else◌, is_some, not}
+use Rattle.std.proofs.Common.{◌≡◌, ◌∙◌, ℕ, Bool, true, false, List, [], ◌∷◌, Option, None, Some, Result, Ok, Err, ap, arith, length, refl, sym, subst}
+use Rattle.std.specs.Prelude.{◌==◌, if◌then◌else◌, is_some, nat_lt}
 use Rattle.std.proofs.lemmas.Bool.{true≢false}
+use Rattle.std.proofs.lemmas.Bool.Decides.{nat_tests}
 use Rattle.plan_clear.proofs.LeastLemmas.{nothing_starts}
 use Rattle.plan_collect.specs.declared.CollectFault.TheVariants as collect
 use Rattle.plan_collect.specs.declared.PlanFault.TheVariants as plan
@@ -16,7 +17,6 @@ use Rattle.agenda_commands.specs.declared.Planning.{Planning}
 use Rattle.agenda_faults.specs.declared.faults.RunFault.{RunFault}
 use Rattle.agenda_faults.specs.declared.faults.RunFault.TheVariants as run
 use Rattle.agenda_inputs.specs.Steps.{goes, stops}
-use Rattle.agenda_machine.specs.Reports.{is_incomplete}
 use Rattle.agenda_sources.specs.Findings.{is_all_clean}
 use Rattle.agenda_sources.specs.declared.Found.{Found}
 use Rattle.agenda_sources.specs.declared.Source.{Source}
@@ -24,7 +24,7 @@ use Rattle.agenda_sources.specs.declared.SourcePath.{SourcePath}
 use Rattle.agenda_sources.specs.declared.TimeZones.{TimeZones}
 use Rattle.agenda_answers.specs.ClearLaws.{ClearIsSafe, MachineClearIsSafe, NothingStarts}
 use Rattle.agenda_answers.proofs.KeepingLaws.{outcome_with}
-use Rattle.agenda_answers.specs.Machine.{machine_status, naming_limit, outcome_of}
+use Rattle.agenda_answers.specs.Machine.{jobs_status, machine_status, naming_limit, outcome_of}
 use Rattle.agenda_answers.specs.Outcome.{Outcome, found_status, has_found, kept_of, skipped_status}
 
 -- the status is that of nothing found and nothing skipped
@@ -101,25 +101,36 @@ text_in_words limit (Ok same) text is = is
 text_in_words limit (Err (run.Plan (plan.Collect collect.TooMany))) text is = absurd cc
 text_in_words limit (Err other) text is = absurd cc
 
--- the status of a machine whose files have no error and could all be read
-whole : (is_clean incomplete : Bool) → ◌≡◌ {A = ℕ} (if is_clean && not incomplete then 0 else 1) 0 → (is_clean ≡ true) × (incomplete ≡ false)
-whole true false is = (refl, refl)
-whole true true is = absurd cc
-whole false incomplete is = absurd cc
+-- nothing is unknown if the status says so
+no_count : (is_some : Bool) → ◌≡◌ {A = ℕ} (if is_some then 4 else 0) 0 → is_some ≡ false
+no_count true is = absurd (omega arith)
+no_count false is = refl
+
+-- the status of an answer that finds nothing, where nothing is unknown
+none_unknown : {A : Type 0} (finds : Bool) (status : ℕ) (unknown : List A) → jobs_status true finds status (length unknown) ≡ 0 →
+    (finds ≡ false) × (unknown ≡ [])
+none_unknown true status unknown is = absurd (omega arith)
+none_unknown false status [] is = (refl, refl)
+none_unknown false status (one ∷ more) is =
+    let none : nat_lt 0 (length (one ∷ more)) ≡ false = no_count _ is in absurd (grind (arith, nat_tests))
 
 pub machine_safe : MachineClearIsSafe
-machine_safe tree dir machine paths errors form planning jobs outcome remark text (goes answer is (goes said computed same)) answered done =
-    let status = found_status (has_found answer (finds_any (Plan planning First) jobs)) (machine_status machine (is_all_clean errors)) in
+machine_safe tree dir machine paths errors unknown form planning jobs outcome remark text
+    (goes answer is (goes status stated (goes said computed same))) answered done =
+    let finds = has_found answer (finds_any (Plan planning First) jobs) in
+    let clean = machine_status machine (is_all_clean errors) in
     let pair : ◌≡◌ {A = Outcome × Option (List ℕ)} (outcome, remark)
     (outcome_of paths errors status (naming_limit planning.sizes.limit answer), said) = cc in
     let own : answer ≡ Ok text = text_in_words planning.sizes.limit answer text (sym (ap (λ both. both.0.answer) pair) ∙ answered) in
-    let (none, clean) = none_found (has_found answer (finds_any (Plan planning First) jobs)) (machine_status machine (is_all_clean errors))
-    (sym (ap (λ both. both.0.status) pair) ∙ done) in
-    let (no_error, no_unread) = whole (is_all_clean errors) (is_incomplete machine.skipped.items) clean in
+    let by : status ≡ jobs_status true finds clean (length unknown) = cc in
+    let (none, no_unknown) = none_unknown finds clean unknown (sym by ∙ (sym (ap (λ both. both.0.status) pair) ∙ done)) in
     let first : finds_any (Plan planning First) jobs ≡ false = rw own at none in (
-      no_error,
-      no_unread,
+      no_unknown,
       nothing_from (counted planning.delays jobs) planning (first_of (counted planning.delays jobs) planning) refl first,
     )
-machine_safe tree dir machine paths errors form planning jobs outcome remark text (goes answer is (stops failure _ same)) answered done = absurd cc
-machine_safe tree dir machine paths errors form planning jobs outcome remark text (stops failure _ same) answered done = absurd cc
+machine_safe tree dir machine paths errors unknown form planning jobs outcome remark text
+    (goes answer is (goes status stated (stops failure _ same))) answered done =
+    absurd cc
+machine_safe tree dir machine paths errors unknown form planning jobs outcome remark text (goes answer is (stops failure _ same)) answered done =
+    absurd cc
+machine_safe tree dir machine paths errors unknown form planning jobs outcome remark text (stops failure _ same) answered done = absurd cc

@@ -12,6 +12,7 @@ use Rattle.plan_write.specs.declared.JobFile.{JobFile}
 use Rattle.plan_streams.specs.declared.WriteFault.{WriteFault}
 use Rattle.plan_machine.specs.Machine.{AreTooManyUnits, IsMachine}
 use Rattle.plan_machine.specs.declared.machine.Machine.{Machine}
+use Rattle.plan_machine.specs.declared.NotPlanned.{NotPlanned}
 use Rattle.agenda_arguments.specs.declared.MachineCheck.{MachineCheck}
 use Rattle.agenda_arguments.specs.declared.MachineDescribe.{MachineDescribe}
 use Rattle.agenda_arguments.specs.declared.MachineJobs.{MachineJobs}
@@ -23,13 +24,16 @@ use Rattle.agenda_faults.specs.Status.{failed_status}
 use Rattle.plan_rules.specs.Job.{JobParts}
 use Rattle.agenda_commands.specs.Goal.{checked_goal, sized_goal, valid_goal}
 use Rattle.agenda_commands.specs.Remark.{remark_of}
+use Rattle.agenda_commands.specs.declared.Form.{Form}
 use Rattle.agenda_commands.specs.declared.Goal.{Goal}
 use Rattle.agenda_commands.specs.declared.RemarkedAnswer.{RemarkedAnswer}
 use Rattle.agenda_sources.specs.declared.Found.{Found}
 use Rattle.agenda_sources.specs.declared.Source.{Source}
 use Rattle.agenda_sources.specs.declared.SourcePath.{SourcePath}
 use Rattle.agenda_inputs.specs.Files.{Held, most_read}
+use Rattle.agenda_answers.specs.Choice.{left_in}
 use Rattle.agenda_answers.specs.Host.{KnownHost}
+use Rattle.agenda_answers.specs.declared.choice.Left.{Left}
 use Rattle.agenda_answers.specs.Machine.{Shown, found_below, jobs_rest, machine_zones, plans, remark_with, said_of, shows_descriptions, shows_findings, shows_jobs, stops_at_first}
 use Rattle.agenda_answers.specs.Outcome.{Outcome, parted, settles}
 use Rattle.agenda_inputs.specs.MachineZone.{KnownTree}
@@ -94,24 +98,24 @@ told reports (Err fault) flag takes_all old new is unset off = absurd cc
 
 -- an error stops a strict answer
 pub rest_stopped :
-    (stopped : Bool) (paths : List SourcePath) (errors : List Found) (answers : Step (Outcome × Option (List ℕ))) → stopped ≡ true →
-    jobs_rest stopped paths errors answers (Ok (stops_at_first paths errors))
-rest_stopped true paths errors answers is = refl
-rest_stopped false paths errors answers is = absurd cc
+    (stopped is_clear : Bool) (paths : List SourcePath) (errors : List Found) (answers : Step (Outcome × Option (List ℕ))) → stopped ≡ true →
+    jobs_rest stopped is_clear paths errors answers (Ok (stops_at_first paths errors is_clear))
+rest_stopped true is_clear paths errors answers is = refl
+rest_stopped false is_clear paths errors answers is = absurd cc
 
 -- without one there is a failure, or an answer
 pub rest_failed :
-    (stopped : Bool) (paths : List SourcePath) (errors : List Found) (answers : Step (Outcome × Option (List ℕ))) (failure : Failure) →
-    stopped ≡ false → answers (Err failure) → jobs_rest stopped paths errors answers (Err failure)
-rest_failed true paths errors answers failure is fails = absurd cc
-rest_failed false paths errors answers failure is fails = stops failure fails refl
+    (stopped is_clear : Bool) (paths : List SourcePath) (errors : List Found) (answers : Step (Outcome × Option (List ℕ))) (failure : Failure) →
+    stopped ≡ false → answers (Err failure) → jobs_rest stopped is_clear paths errors answers (Err failure)
+rest_failed true is_clear paths errors answers failure is fails = absurd cc
+rest_failed false is_clear paths errors answers failure is fails = stops failure fails refl
 
 pub rest_planned :
-    (stopped : Bool) (paths : List SourcePath) (errors : List Found) (answers : Step (Outcome × Option (List ℕ)))
+    (stopped is_clear : Bool) (paths : List SourcePath) (errors : List Found) (answers : Step (Outcome × Option (List ℕ)))
     (answer : Outcome × Option (List ℕ)) → stopped ≡ false → answers (Ok answer) →
-    jobs_rest stopped paths errors answers (Ok (plans answer.0 answer.1))
-rest_planned true paths errors answers answer is made = absurd cc
-rest_planned false paths errors answers answer is made = goes answer made refl
+    jobs_rest stopped is_clear paths errors answers (Ok (plans answer.0 answer.1))
+rest_planned true is_clear paths errors answers answer is made = absurd cc
+rest_planned false is_clear paths errors answers answer is made = goes answer made refl
 
 -- files that are lent are the same
 pub lent_files :
@@ -142,11 +146,28 @@ said_parts goal kept made (Err fault) remark same = refl
 
 -- the same is said about the same answer
 pub remark_same :
-    (goal : Goal) (is_answer other_is : Bool) (remark other_remark : Option (List ℕ)) (status other_status : ℕ)
+    (goal : Goal) (is_answer other_is : Bool) (remark other_remark : Option (List ℕ)) (status other_status unknown : ℕ)
     (said : Option (List ℕ)) →
-    said ≡ remark_with goal is_answer remark status → is_answer ≡ other_is → remark ≡ other_remark → status ≡ other_status →
-    said ≡ remark_with goal other_is other_remark other_status
-remark_same goal is_answer other_is remark other_remark status other_status said found same_is same_remark same_status =
-    subst (λ (s : ℕ). said ≡ remark_with goal other_is other_remark s) same_status
-    (subst (λ (r : Option (List ℕ)). said ≡ remark_with goal other_is r status) same_remark
-    (subst (λ (b : Bool). said ≡ remark_with goal b remark status) same_is found))
+    said ≡ remark_with goal is_answer status remark unknown → is_answer ≡ other_is → remark ≡ other_remark → status ≡ other_status →
+    said ≡ remark_with goal other_is other_status other_remark unknown
+remark_same goal is_answer other_is remark other_remark status other_status unknown said found same_is same_remark same_status =
+    subst (λ (s : ℕ). said ≡ remark_with goal other_is s other_remark unknown) same_status
+    (subst (λ (r : Option (List ℕ)). said ≡ remark_with goal other_is status r unknown) same_remark
+    (subst (λ (b : Bool). said ≡ remark_with goal b status remark unknown) same_is found))
+
+-- the same is left of the same
+pub left_same :
+    (r r' : List ℕ) (machine : Machine) (unplanned : List NotPlanned) (ps ps' : List SourcePath) (es es' : List Found)
+    (is_zone_unknown : Bool) (a a' p p' : List JobParts) (ns ns' os os' : List (List ℕ)) (end : Result Left Failure) → r ≡ r' → ps ≡ ps' →
+    es ≡ es' → a ≡ a' → p ≡ p' → ns ≡ ns' → os ≡ os' → left_in r machine unplanned ps es is_zone_unknown a p ns os end →
+    left_in r' machine unplanned ps' es' is_zone_unknown a' p' ns' os' end
+left_same r r' machine unplanned ps ps' es es' is_zone_unknown a a' p p' ns ns' os os' end on_r on_ps on_es on_a on_p on_ns on_os is =
+    let ends : List ℕ → List SourcePath → List Found → List JobParts → List JobParts → List (List ℕ) → List (List ℕ) → Type 0 =
+    λ r ps es a p ns os. left_in r machine unplanned ps es is_zone_unknown a p ns os end in
+    subst (λ (os : List (List ℕ)). ends r' ps' es' a' p' ns' os) on_os
+    (subst (λ (ns : List (List ℕ)). ends r' ps' es' a' p' ns os) on_ns
+    (subst (λ (p : List JobParts). ends r' ps' es' a' p ns os) on_p
+    (subst (λ (a : List JobParts). ends r' ps' es' a p ns os) on_a
+    (subst (λ (es : List Found). ends r' ps' es a p ns os) on_es
+    (subst (λ (ps : List SourcePath). ends r' ps es a p ns os) on_ps
+    (subst (λ (r : List ℕ). ends r ps es a p ns os) on_r is))))))

@@ -1,5 +1,5 @@
--- The laws of a clear span: `clear` never ends with status 0 where a job may start, or where something was skipped (agenda).
-use Rattle.std.specs.Prelude.{◌≡◌, ◌<◌, ◌≤◌, ◌+◌, ℕ, Bool, true, false, List, [], Option, Ok, Some, slice_get}
+-- The laws of a clear span: `clear` never ends with status 0 where a job may start, or where something is unknown (agenda).
+use Rattle.std.specs.Prelude.{◌≡◌, ◌<◌, ◌≤◌, ◌+◌, ℕ, Bool, true, false, List, [], Option, Ok, Some, length, slice_get}
 use Rattle.plan_next.specs.Span.{Bounds}
 use Rattle.plan_next.specs.Starts.{is_start}
 use Rattle.plan_rules.specs.Delays.{counted}
@@ -7,7 +7,7 @@ use Rattle.plan_rules.specs.Job.{JobParts}
 use Rattle.plan_collect.specs.declared.PlanView.TheVariants.{First}
 use Rattle.plan_machine.specs.declared.Machine.{Machine}
 use Rattle.plan_clear.specs.First.{whole_minute}
-use Rattle.agenda_machine.specs.Reports.{is_incomplete}
+use Rattle.agenda_machine.specs.declared.Unknown.{Unknown}
 use Rattle.agenda_arguments.specs.declared.JobsRequest.{JobsRequest}
 use Rattle.agenda_commands.specs.Prepare.{jobs_if, jobs_or}
 use Rattle.agenda_commands.specs.declared.Form.{Form}
@@ -18,7 +18,6 @@ use Rattle.agenda_inputs.specs.Files.{Held}
 use Rattle.agenda_inputs.specs.MachineZone.{KnownTree}
 use Rattle.agenda_inputs.specs.Sources.{input_of}
 use Rattle.agenda_inputs.specs.declared.Tried.{Tried}
-use Rattle.agenda_sources.specs.Findings.{is_all_clean}
 use Rattle.agenda_sources.specs.declared.Found.{Found}
 use Rattle.agenda_sources.specs.declared.SourcePath.{SourcePath}
 use Rattle.agenda_sources.specs.declared.TimeZones.{TimeZones}
@@ -46,12 +45,13 @@ ClearIsSafe = (keeps_going : Bool) (held : Held) (planning : Planning) (request 
     → outcome_by keeps_going held (Plan planning First) request (Ok outcome) → outcome.answer ≡ Ok text → outcome.status ≡ done_status
     → (outcome.unread ≡ []) × (outcome.errors ≡ []) × IsClearOf keeps_going held planning request
 
--- the same of a machine with these jobs: then its files have no error and could all be read
+-- the same of a machine with these jobs, of which these things are unknown: status 0 comes only if no planned job may start in the span,
+-- and nothing is unknown
 abbrev pub MachineClearIsSafe : Type 0
 MachineClearIsSafe =
-    (tree : KnownTree) (dir : List ℕ) (machine : Machine) (paths : List SourcePath) (errors : List Found) (form : Form)
-    (planning : Planning)
+    (tree : KnownTree) (dir : List ℕ) (machine : Machine) (paths : List SourcePath) (errors : List Found) (unknown : List Unknown)
+    (form : Form) (planning : Planning)
     (jobs : List JobParts) (outcome : Outcome) (remark : Option (List ℕ)) (text : List ℕ)
-    → answers_said tree dir machine paths errors form (Plan planning First) jobs (Ok (outcome, remark)) → outcome.answer ≡ Ok text
-    → outcome.status ≡ done_status
-    → (is_all_clean errors ≡ true) × (is_incomplete machine.skipped.items ≡ false) × NothingStarts (counted planning.delays jobs) planning.span
+    → answers_said tree dir machine paths errors (length unknown) form (Plan planning First) jobs (Ok (outcome, remark))
+    → outcome.answer ≡ Ok text → outcome.status ≡ done_status
+    → (unknown ≡ []) × NothingStarts (counted planning.delays jobs) planning.span

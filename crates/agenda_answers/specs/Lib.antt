@@ -12,3 +12,4 @@ pub mod Program
 pub mod Requests
 pub mod Describe
 pub mod MachineDescribe
+pub mod Choice

@@ -1,7 +1,9 @@
 -- What is asked about the jobs of a machine, once the times and the length were read. All of it is our choice (agenda).
-use Rattle.std.specs.Prelude.{◌≡◌, ℕ, ◌<◌, nat_le, ◌&&◌, Bool, true, false, List, Option, None, Some, Result, Ok, Err}
+use Rattle.std.specs.Prelude.{◌≡◌, ℕ, ◌<◌, nat_le, ◌==◌, ◌&&◌, Bool, true, false, List, Option, None, Some, Result, Ok, Err}
 use Rattle.plan_clock.specs.declared.row.Change.{Change}
 use Rattle.plan_collect.specs.Span.{Bounds}
+use Rattle.plan_collect.specs.declared.PlanView.{PlanView}
+use Rattle.plan_collect.specs.declared.PlanView.TheVariants as view
 use Rattle.plan_collect.specs.declared.Sizes.{Sizes}
 use Rattle.plan_sets.specs.Limits.{end_second}
 use Rattle.plan_times.specs.Forms.{form_of, length_of}
@@ -15,7 +17,7 @@ use Rattle.agenda_arguments.specs.declared.SpanRequest.{SpanRequest}
 use Rattle.agenda_commands.specs.declared.Goal.{Goal}
 use Rattle.agenda_commands.specs.declared.Goal.TheVariants as goal
 use Rattle.agenda_faults.specs.declared.faults.Failure.TheVariants.{Machine}
-use Rattle.agenda_faults.specs.declared.machine_faults.MachineFault.TheVariants.{Time, Length, Number, Backwards, Clock}
+use Rattle.agenda_faults.specs.declared.machine_faults.MachineFault.TheVariants.{Time, Length, Number, Backwards, EmptySpan, Clock}
 use Rattle.agenda_faults.specs.MachineLines.{most_of}
 use Rattle.agenda_faults.specs.declared.machine_faults.NumberOption.{NumberOption}
 use Rattle.agenda_faults.specs.declared.machine_faults.NumberOption.TheVariants.{Planners, Room, Limit}
@@ -68,6 +70,15 @@ span_at now clock span = do
   until ← until_at since now clock span.until
   bounded_by clock since until
 
+-- a span that is to be clear has a second
+abbrev pub filled_if : (is_empty : Bool) → (clock : List Change) → Bounds → Step Bounds
+filled_if true clock span = fails (Machine (EmptySpan (local_text clock span.since)))
+filled_if false clock span = gives span
+
+abbrev pub filled_by : PlanView → (clock : List Change) → Bounds → Step Bounds
+filled_by view.First clock span = filled_if (span.since == span.upto) clock span
+filled_by view clock span = gives span
+
 -- the minimum length of a gap, by the length that its text is
 abbrev pub least_of : (text : List ℕ) → (length : Option ℕ) → Step ℕ
 least_of text (Some least) = gives least
@@ -100,8 +111,9 @@ goal_by held now clock delays (Scripts after) = do
   gives (goal.Scripts moment)
 goal_by held now clock delays (Plan span sizes view) = do
   bounds ← span_at now clock span
+  filled ← filled_by view clock bounds
   valid ← sizes_in sizes
-  gives (goal.Plan (record { span = bounds; sizes = valid; delays = delays }) view)
+  gives (goal.Plan (record { span = filled; sizes = valid; delays = delays }) view)
 goal_by held now clock delays (Quiet span sizes least) = do
   bounds ← span_at now clock span
   seconds ← least_of least (length_of least)

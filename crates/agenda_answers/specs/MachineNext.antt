@@ -32,7 +32,7 @@ use Rattle.agenda_inputs.specs.Steps.{Step, gives, ◌>>=◌}
 -- event ends with, from the machine's files
 abbrev pub starts_at : Held → KnownHost → MachineNext → Step NextStarts
 starts_at held host next = do
-  clock ← machine_clock held host.tree [] next.zone
+  clock ← machine_clock held host.tree next.zone
   after ← after_at host.time clock.clock next.after
   count ← number_in Count next.count
   zones ← time_zones (machine_files held host.tree) (record { zone = clock.name; event_zones = true }) clock.clock (asked_zones next.rule)

@@ -12,16 +12,16 @@ pub fn clear_is_safe()
     ensures { ClearIsSafe }
 {}
 
-/// States the same law of a machine: if `clear` answers with status 0, no file has an error, none could not be read, and
-/// no job that is left may start in the span.
+/// States the same law of a machine: if `clear` answers with status 0, nothing is unknown, and no job that is left may start in the
+/// span.
 ///
 /// The function does nothing: its contract is the law.
 pub fn machine_clear_is_safe()
     ensures { MachineClearIsSafe }
 {}
 
-/// States the law of idle jobs: an answer about a machine without them is the answer with `--idle`, and with `--except` for each
-/// of them, but for the lines that report them.
+/// States the law of idle jobs: an answer about a machine without them is the answer with `--idle`, but for the jobs with their
+/// names, and for the lines that report them.
 ///
 /// No two jobs may have one name, and there may be at most 1,000 of them.
 ///

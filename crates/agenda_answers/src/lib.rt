@@ -6,6 +6,8 @@
 
 mod answers;
 mod changes;
+mod choice;
+mod clear;
 mod describe;
 mod formats;
 mod host;

@@ -2,55 +2,53 @@
 //!
 //! The answer is made before a byte is written.
 
-ghost use Rattle.std.specs.Prelude.{◌≡◌, false, IfOk, IsTrue, Some, option_map, true};
+ghost use Rattle.std.specs.Prelude.{◌≡◌, ◌||◌, [], false, IfOk, IsTrue, Some, option_map, string_bytes, true, unwrap_or};
 ghost use Rattle.agenda_answers.specs.Host.{host_of};
-ghost use Rattle.agenda_answers.specs.Machine.{AnswersMachine, answers_said, directory_if, files_if, found_in, in_words};
-ghost use Rattle.agenda_answers.specs.Machine.{errors_in, findings_rest, is_root, machine_below, machine_ends, machine_if, machine_of};
-ghost use Rattle.agenda_answers.specs.Machine.{is_stopped, kept_in, machine_zones, naming_limit, needs_files, remark_with, rest_of, shows_findings, shows_jobs};
+ghost use Rattle.agenda_answers.specs.Machine.{AnswersMachine, answers_said, files_if, found_in, has_system, in_words, is_there, root_if};
+ghost use Rattle.agenda_answers.specs.Machine.{findings_rest, is_root, machine_below, machine_ends, machine_if, machine_of};
+ghost use Rattle.agenda_answers.specs.Machine.{is_stopped, machine_zones, naming_limit, needs_files, rest_of, shows_findings, shows_jobs};
 ghost use Rattle.agenda_machine.specs.JobFiles.{files_of_jobs};
-ghost use Rattle.agenda_sources.specs.Findings.{kept_jobs, sources_errors};
 ghost use Rattle.agenda_machine.specs.Places.{paths_of};
 ghost use Rattle.agenda_machine.specs.Root.{root_of};
 
 use crate::answers::end;
+use crate::choice::{ReadSources, left_of, read_jobs};
+use crate::clear::{
+    is_clear, is_clear_question, is_too_large, jobs_status, remark_of, unanswered_status,
+};
 use crate::formats::{FormRequest, make_form, unnamed_zone};
 use crate::host::Host;
-use crate::jobs::{Outcome, found_status, parted, settled};
+use crate::jobs::{Outcome, parted, settled};
 use crate::machine_answer::{MachineAnswer, Printout, Site, Skipped, show, status_of};
 use crate::machine_describe::descriptions_answer;
 use crate::machine_goal::goal_at;
 use agenda_arguments::{MachineCheck, MachineJobs, MachineQuestion, MachineRequest};
 use agenda_commands::{Form, Goal, PreparedAnswer, are_warnings, prepare_remarked};
-use agenda_faults::status::DONE;
 use agenda_faults::{Failure, RunFault};
 use agenda_inputs::{Files, MOST_READ, MachineFiles, machine_clock, read_zones};
 use agenda_machine::{
-    LoadedMachine, dir_of, files_of_jobs, located, paths_of, root_of, sources_of, with_idle,
-    with_loaded,
+    LoadedMachine, Reading, dir_of, files_of_jobs, located, paths_of, root_of, sources_of,
+    with_idle, with_loaded,
 };
 use agenda_policy::judged;
-use agenda_sources::{
-    Found, Kept, SourcePaths, Sources, TimeZones, findings_of_sources, kept_of_sources, zone_names,
-};
+use agenda_sources::{Found, SourcePaths, Sources, TimeZones, findings_of_sources, zone_names};
 use plan_clock::Clock;
-use plan_collect::{CollectFault, PlanFault, PlanView};
+use plan_collect::{CollectFault, PlanFault};
 use plan_machine::{Machine, find_machine};
 use plan_rules::{Jobs, Text};
 use plan_services::default_accuracy;
 use plan_streams::Stream;
-use plan_tree::{Complete, Rooted, Tree, is_directory};
+use plan_tree::{Complete, Node, Rooted, Tree, is_directory};
 use plan_write::JobFile;
 use std::alloc::{AllocError, Global};
 use std::sync::Wait;
 use std::thread::Threads;
 
-// What is said if a first entry is asked for, but something is skipped.
-const NOT_CLEAR: &str = "agenda: not clear: some files could not be read\n";
-
 /// Answers a question about a machine, and returns the exit status.
 ///
-/// The status is 1 if an error is found or if something can't be read, and 0 otherwise. If there is no answer, it is
-/// that of the error. If standard error fails, it is 3, and nothing is written to standard output.
+/// The status is 1 if an error is found or if something can't be read, and 0 otherwise. For `clear` it is 1 if a job may start, 4 if
+/// none is known to, but something is unknown, and 0 otherwise. If there is no answer, it is that of the error, but for `clear`, 2 in
+/// place of 1. If standard error fails, it is 3, and nothing is written to standard output.
 pub(crate) fn answer_machine<R: Threads + Wait + Sync, F: Files, T: Complete, O: Stream, E: Stream>(
     rt: &R,
     alloc: Global,
@@ -68,7 +66,11 @@ pub(crate) fn answer_machine<R: Threads + Wait + Sync, F: Files, T: Complete, O:
 {
     match make_answer(rt, alloc, request, files, host) {
         Ok(answer) => show(answer, out, err),
-        Err(failure) => end(Err(failure), &[], err),
+        Err(failure) => {
+            let is_too_large = is_too_large(&failure);
+            let status = end(Err(failure), &[], err);
+            unanswered_status(is_clear_question(&request.question), is_too_large, status)
+        }
     }
 }
 
@@ -119,7 +121,7 @@ fn make_answer<'a, R: Threads + Wait + Sync, F: Files, T: Complete>(
     }
 }
 
-// Finds what is on the machine whose root has this path, if that is a directory.
+// Finds what is on the machine whose root has this path, if that is a directory with a system.
 fn machine_of<T: Complete>(
     alloc: Global,
     tree: &T,
@@ -129,7 +131,9 @@ fn machine_of<T: Complete>(
     ensures { machine_of (record { is_known = T.is_known; held = T.held tree.now }) all dir.now result }
 {
     let is = is_root(alloc, tree, dir)?;
-    directory_if(alloc, is, dir)?;
+    let below = Rooted::new(tree, root_of(dir));
+    let has = has_system(alloc, &below)?;
+    root_if(alloc, is, has, dir)?;
     machine_below(alloc, tree, all, dir)
 }
 
@@ -139,6 +143,22 @@ fn is_root<T: Tree>(alloc: Global, tree: &T, dir: &str) -> Result<bool, AllocErr
 {
     let is = is_directory(alloc, tree, root_of(dir))?;
     Ok(!dir.is_empty() && is)
+}
+
+// Returns whether a root has anything named etc or usr.
+fn has_system<T: Tree>(alloc: Global, tree: &T) -> Result<bool, AllocError>
+    ensures { T.is_known ≡ true → IfOk result (λ has. has ≡ has_system (T.held tree.now)) }
+{
+    let etc = tree.node(alloc, "etc")?;
+    let usr = tree.node(alloc, "usr")?;
+    Ok(either_is_there(&etc, &usr))
+}
+
+// Returns whether anything is at one of two paths.
+fn either_is_there(one: &Node, other: &Node) -> bool
+    ensures { result ≡ (is_there one.now || is_there other.now) }
+{
+    !matches!((one, other), (Node::Missing, Node::Missing))
 }
 
 // Finds what is on the machine whose root has this path.
@@ -155,14 +175,18 @@ fn machine_below<T: Complete>(
     machine_if(alloc, found, dir)
 }
 
-// Rejects a root that is no directory.
-fn directory_if(alloc: Global, is: bool, dir: &str) -> Result<(), Failure>
-    ensures { directory_if is dir.now result }
+// Rejects a root that is no directory, or has no system.
+fn root_if(alloc: Global, is: bool, has: bool, dir: &str) -> Result<(), Failure>
+    ensures { root_if is has dir.now result }
 {
+    if is && has {
+        return Ok(());
+    }
+    let dir = Text::new(String::from_str(alloc, dir)?);
     if is {
-        Ok(())
+        Err(Failure::NoSystem(dir))
     } else {
-        Err(Failure::NotDirectory(Text::new(String::from_str(alloc, dir)?)))
+        Err(Failure::NotDirectory(dir))
     }
 }
 
@@ -188,7 +212,7 @@ fn check_answer<'a, F: Files, T: Tree>(
     ensures { shows_findings (F.held files.old) (record { is_known = T.is_known; held = T.held tree.now }) dir.now check.now machine
         machine.unplanned.items result }
 {
-    let clock = machine_clock(alloc, files, tree, root_of(dir), &check.zone)?;
+    let clock = machine_clock(alloc, files, tree, &check.zone)?;
     let sources = sources_of(alloc, machine.sources.as_slice())?;
     let zones = machine_zones(alloc, files, tree, clock.clock, &sources)?;
     let printout = findings_of(alloc, dir, &machine, &sources, &zones, check)?;
@@ -260,7 +284,7 @@ fn jobs_answer<'a, R: Threads + Wait + Sync, F: Files, T: Tree>(
         machine,
         planned: loads,
     } = loaded;
-    let clock = machine_clock(alloc, files, host.tree, root_of(dir), &jobs.zone)?;
+    let clock = machine_clock(alloc, files, host.tree, &jobs.zone)?;
     let goal = goal_at(alloc, files, host.time, &clock.clock, jobs)?;
     let sources = sources_of(alloc, machine.sources.as_slice())?;
     let zones = machine_zones(alloc, files, host.tree, clock.clock, &sources)?;
@@ -279,32 +303,46 @@ fn jobs_answer<'a, R: Threads + Wait + Sync, F: Files, T: Tree>(
         unnamed,
         &zones.clock,
     )?;
-    let except = jobs.except.as_slice();
     let read = ReadSources {
         all: &sources,
         planned: &loads,
     };
-    let (skipped, kept) = kept_of(alloc, dir, &machine, read, &zones, except)?;
+    let (skipped, read) = read_jobs(alloc, dir, &machine, read, &zones)?;
+    let reading = Reading {
+        root: root_of(dir),
+        machine: &machine,
+        paths: skipped.paths.as_slice(),
+        errors: skipped.errors.as_slice(),
+        is_zone_unknown: clock.is_unknown,
+    };
+    let except = jobs.except.as_slice();
+    let only = jobs.only.as_slice();
+    let left = left_of(alloc, &reading, read, except, only)?;
     let site = Site {
         dir,
         machine,
         is_zone_unknown: clock.is_unknown,
     };
     if is_stopped(jobs.strict, skipped.errors.as_slice()) {
-        let printout = Printout::Stopped(skipped);
+        let printout = Printout::Stopped(skipped, is_clear(&goal));
         return Ok(MachineAnswer { site, printout });
     }
-    let output = Output { goal: &goal, form };
-    let (outcome, remark) = planned(rt, alloc, host.tree, &site, skipped, kept, output)?;
+    let output = Output {
+        goal: &goal,
+        form,
+        unknown: left.unknown,
+    };
+    let (outcome, remark) = planned(rt, alloc, host.tree, &site, skipped, left.jobs, output)?;
     let printout = Printout::Jobs(outcome, remark);
     Ok(MachineAnswer { site, printout })
 }
 
-// What is made of jobs, and in which form.
+// What is made of jobs, in which form, and how many things are unknown.
 #[derive(Drop)]
 struct Output<'a> {
     goal: &'a Goal,
     form: Form,
+    unknown: usize,
 }
 
 // Makes the answer for the jobs of a machine that are left, with what is said about it. The machine has this tree.
@@ -318,46 +356,29 @@ fn planned<R: Threads + Wait + Sync, T: Tree>(
     output: Output<'_>,
 ) -> Result<(Outcome, Option<Text>), Failure>
     ensures { answers_said (record { is_known = T.is_known; held = T.held tree.now }) site.now.dir.now site.now.machine skipped.paths
-        skipped.errors.items output.entry.form output.entry.goal.now kept result }
+        skipped.errors.items output.entry.unknown output.entry.form output.entry.goal.now kept result }
 {
-    let Output { goal, form } = output;
+    let Output {
+        goal,
+        form,
+        unknown,
+    } = output;
     let needed = needs_files(&form, goal);
     let files = files_if(alloc, tree, site, &kept, needed)?;
     let made = prepare_remarked(rt, alloc, kept, goal, form, files.as_deref());
     let made = settled(made)?;
     let (answer, said) = parted(made);
     let status = status_of(&site.machine, are_warnings(skipped.errors.as_slice()));
-    let remark = remark_of(alloc, goal, answer.is_ok(), said.remark, status)?;
+    let status = jobs_status(goal, said.finds_any, status, unknown);
+    let remark = remark_of(alloc, goal, answer.is_ok(), status, said.remark, unknown)?;
     let outcome = Outcome {
         unread: SourcePaths::new(alloc),
-        status: found_status(said.finds_any, status),
+        status,
         paths: skipped.paths,
         errors: skipped.errors,
         answer: in_words(answer, goal),
     };
     Ok((outcome, remark))
-}
-
-// Returns what is said about an answer with this exit status: that a span isn't clear, if a first entry was asked for and
-// something is skipped, and otherwise what was said before.
-fn remark_of(
-    alloc: Global,
-    goal: &Goal,
-    is_answer: bool,
-    remark: Option<Text>,
-    status: u8,
-) -> Result<Option<Text>, AllocError>
-    ensures { IfOk result (λ said. said ≡ remark_with goal.now is_answer remark status) }
-{
-    match goal {
-        Goal::Plan {
-            view: PlanView::First,
-            ..
-        } if is_answer && status != DONE => {
-            Ok(Some(Text::new(String::from_str(alloc, NOT_CLEAR)?)))
-        }
-        _ => Ok(remark),
-    }
 }
 
 // Returns whether an answer in this form has the files of its jobs, or their scripts: a table, lines in JSON, and the list of
@@ -426,47 +447,4 @@ pub(crate) fn is_stopped(strict: bool, errors: &[Found]) -> bool
     ensures { result ≡ is_stopped strict errors.now }
 {
     strict && !errors.is_empty()
-}
-
-// The sources of a machine, and those that a plan reads.
-#[derive(Clone, Copy)]
-pub(crate) struct ReadSources<'a> {
-    pub(crate) all: &'a Sources,
-    pub(crate) planned: &'a Sources,
-}
-
-// Finds the errors of all sources of a machine, and the jobs of those that a plan reads, without those with these names.
-pub(crate) fn kept_of(
-    alloc: Global,
-    dir: &str,
-    machine: &Machine,
-    sources: ReadSources<'_>,
-    zones: &TimeZones,
-    except: &[Text],
-) -> Result<(Skipped, Jobs), AllocError>
-    ensures paths { IfOk result (λ kept. kept.0.paths ≡ paths_of false (root_of dir.now) machine.now.sources.items) }
-    ensures errors { IfOk result (λ kept. kept.0.errors.items ≡ errors_in machine.now zones.now sources.entry.all.now) }
-    ensures jobs { IfOk result (λ kept. kept.1 ≡ kept_in except.now zones.now sources.entry.planned.now) }
-{
-    let errors = errors_of(alloc, sources.all, zones)?;
-    let errors = located(machine.sources.as_slice(), errors)?;
-    let paths = paths_of(alloc, root_of(dir), machine.sources.as_slice(), false)?;
-    let jobs = kept_jobs(alloc, sources.planned, zones)?;
-    Ok((Skipped { paths, errors }, jobs.without(except)))
-}
-
-// Finds the errors of sources.
-fn errors_of(alloc: Global, sources: &Sources, zones: &TimeZones) -> Result<Vec<Found>, AllocError>
-    ensures { IfOk result (λ errors. errors.items ≡ sources_errors zones.now sources.now) }
-{
-    let Kept { errors, .. } = kept_of_sources(alloc, sources, zones)?;
-    Ok(errors)
-}
-
-// Finds the jobs of sources that are left without errors.
-fn kept_jobs(alloc: Global, sources: &Sources, zones: &TimeZones) -> Result<Jobs, AllocError>
-    ensures { IfOk result (λ jobs. jobs ≡ kept_jobs zones.now sources.now) }
-{
-    let Kept { jobs, .. } = kept_of_sources(alloc, sources, zones)?;
-    Ok(jobs)
 }

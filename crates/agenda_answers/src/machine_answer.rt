@@ -4,7 +4,7 @@
 
 ghost use Rattle.std.specs.Prelude.{◌≡◌, ◌≢◌, false, IsTrue, Ok, OnOk, true};
 ghost use Rattle.agenda_answers.specs.Answer.{HoldsAfter};
-ghost use Rattle.agenda_answers.specs.Machine.{ReportsFirst, Says, Shows, ShowsRest, has_reports, machine_reports, machine_status, rest_of};
+ghost use Rattle.agenda_answers.specs.Machine.{ReportsFirst, Says, Shows, ShowsRest, has_reports, machine_reports, machine_status, rest_of, stopped_status};
 ghost use Rattle.agenda_findings.specs.Findings.{check_text};
 ghost use Rattle.agenda_machine.specs.Listing.{sources_text};
 ghost use Rattle.agenda_machine.specs.Root.{root_of};
@@ -14,7 +14,7 @@ ghost use Rattle.plan_streams.specs.Stream.{Puts};
 use crate::answers::end;
 use crate::jobs::{Outcome, report};
 use agenda_commands::are_warnings;
-use agenda_faults::status::{DONE, FAILED, REJECTED};
+use agenda_faults::status::{DONE, FAILED, REJECTED, UNKNOWN};
 use agenda_faults::{Failure, RunFault};
 use agenda_findings::{write_findings, write_skipped};
 use agenda_machine::{Reports, is_incomplete, root_of, write_reports, write_sources};
@@ -44,8 +44,8 @@ pub(crate) enum Printout {
     },
     /// What is made of their jobs, and what is said about it.
     Jobs(Outcome, Option<Text>),
-    /// The errors of their files, of which the first stops the answer.
-    Stopped(Skipped),
+    /// The errors of their files, of which the first stops the answer, and whether it was whether a span is clear.
+    Stopped(Skipped, bool),
 }
 
 /// The errors of a machine's sources, with their places in these paths.
@@ -140,7 +140,7 @@ fn show_rest<O: Stream, E: Stream>(
             let status = report(outcome, &[], out, err);
             say(&remark, status, err)
         }
-        Printout::Stopped(skipped) => report_first(&skipped, err),
+        Printout::Stopped(skipped, is_clear) => report_first(&skipped, is_clear, err),
     }
 }
 
@@ -172,8 +172,8 @@ fn put_text<S: Stream>(text: &str, out: &mut S) -> Result<(), WriteFault>
 }
 
 // Reports the first error, which stops the answer, and returns the exit status.
-fn report_first<S: Stream>(skipped: &Skipped, err: &mut S) -> u8
-    ensures answers { ReportsFirst skipped.now.paths skipped.now.errors.items result
+fn report_first<S: Stream>(skipped: &Skipped, is_clear: bool, err: &mut S) -> u8
+    ensures answers { ReportsFirst skipped.now.paths skipped.now.errors.items is_clear result
         (record { takes_all = S.takes_all; old = S.holds err.old; new = S.holds err.new }) }
     ensures failed { result ≢ 0 }
     ensures flushed { S.takes_all ≡ true → IsTrue (S.is_flushed err.old) → IsTrue (S.is_flushed err.new) }
@@ -183,9 +183,16 @@ fn report_first<S: Stream>(skipped: &Skipped, err: &mut S) -> u8
         None => &[],
     };
     match write_skipped(&[], skipped.paths.as_slice(), first, err) {
-        Ok(()) => REJECTED,
+        Ok(()) => stopped_status(is_clear),
         Err(_) => FAILED,
     }
+}
+
+// Returns the exit status of an answer that the first error stopped: whether a span is clear isn't known then.
+fn stopped_status(is_clear: bool) -> u8
+    ensures { result ≡ stopped_status is_clear }
+{
+    if is_clear { UNKNOWN } else { REJECTED }
 }
 
 // Prints the sources of a machine, and returns the exit status.

@@ -6,10 +6,11 @@ ghost use Rattle.agenda_answers.specs.Machine.{descriptions_said, shows_descript
 ghost use Rattle.agenda_answers.specs.MachineDescribe.{AnswersRule, LeavesSentence, zones_at};
 
 use crate::answers::end;
+use crate::choice::{ReadSources, left_of, read_jobs};
 use crate::formats::{FormRequest, make_form, unnamed_zone};
 use crate::host::Host;
 use crate::jobs::{Outcome, settled};
-use crate::machine::{ReadSources, is_stopped, kept_of, machine_zones};
+use crate::machine::{is_stopped, machine_zones};
 use crate::machine_answer::{MachineAnswer, Printout, Site, Skipped, status_of};
 use crate::machine_next::report_fault;
 use agenda_arguments::{FormatRequest, MachineDescribe, ZonesRequest};
@@ -17,7 +18,7 @@ use agenda_commands::{Form, are_warnings, prepare_description, run_describe};
 use agenda_faults::Failure;
 use agenda_faults::status::DONE;
 use agenda_inputs::{Files, MachineFiles, machine_clock, zones_of_rule};
-use agenda_machine::{LoadedMachine, root_of, sources_of};
+use agenda_machine::{LoadedMachine, Reading, root_of, sources_of};
 use agenda_sources::{Asked, SourcePaths, Sources, TimeZones};
 use plan_clock::Clock;
 use plan_rules::Jobs;
@@ -45,7 +46,7 @@ pub(crate) fn descriptions_answer<'a, F: Files, T: Tree>(
         machine,
         planned: loads,
     } = loaded;
-    let clock = machine_clock(alloc, files, host.tree, root_of(dir), &describe.zone)?;
+    let clock = machine_clock(alloc, files, host.tree, &describe.zone)?;
     let sources = sources_of(alloc, machine.sources.as_slice())?;
     let zones = machine_zones(alloc, files, host.tree, clock.clock, &sources)?;
     let unnamed = unnamed_zone(clock.is_of_file);
@@ -69,18 +70,27 @@ pub(crate) fn descriptions_answer<'a, F: Files, T: Tree>(
         all: &sources,
         planned: &loads,
     };
+    let (skipped, read) = read_jobs(alloc, dir, &machine, read, &zones)?;
+    let reading = Reading {
+        root: root_of(dir),
+        machine: &machine,
+        paths: skipped.paths.as_slice(),
+        errors: skipped.errors.as_slice(),
+        is_zone_unknown: clock.is_unknown,
+    };
     let except = describe.except.as_slice();
-    let (skipped, kept) = kept_of(alloc, dir, &machine, read, &zones, except)?;
+    let only = describe.only.as_slice();
+    let left = left_of(alloc, &reading, read, except, only)?;
     let site = Site {
         dir,
         machine,
         is_zone_unknown: clock.is_unknown,
     };
     if is_stopped(describe.strict, skipped.errors.as_slice()) {
-        let printout = Printout::Stopped(skipped);
+        let printout = Printout::Stopped(skipped, false);
         return Ok(MachineAnswer { site, printout });
     }
-    let outcome = described(alloc, &site, skipped, kept, &loads, &zones, form)?;
+    let outcome = described(alloc, &site, skipped, left.jobs, &loads, &zones, form)?;
     let printout = Printout::Jobs(outcome, None);
     Ok(MachineAnswer { site, printout })
 }

@@ -3,7 +3,7 @@
 ghost use Rattle.std.specs.Prelude.{◌≡◌, ◌≤◌, IfOk};
 ghost use Rattle.plan_sets.specs.Limits.{end_second};
 ghost use Rattle.plan_times.specs.Forms.{length_of};
-ghost use Rattle.agenda_answers.specs.MachineGoal.{after_at, goal_at, least_of, number_in, present, since_at, sizes_in, span_at, until_at};
+ghost use Rattle.agenda_answers.specs.MachineGoal.{after_at, filled_by, goal_at, least_of, number_in, present, since_at, sizes_in, span_at, until_at};
 
 use crate::changes::changes_since;
 use agenda_arguments::{MachineGoal, MachineJobs, SpanRequest};
@@ -11,7 +11,7 @@ use agenda_commands::{Goal, Planning};
 use agenda_faults::{Failure, MachineFault, NumberOption, TimeOption};
 use agenda_inputs::{Files, copy_of, read_baseline};
 use plan_clock::Clock;
-use plan_collect::{Sizes, Span};
+use plan_collect::{PlanView, Sizes, Span};
 use plan_rules::Text;
 use plan_sets::END_SECOND;
 use plan_times::{length, since_time, until_time};
@@ -24,7 +24,8 @@ use std::alloc::Global;
 /// # Errors
 ///
 /// `Machine(Clock)` if the time is after the planner's years. Else those of `read_baseline`, or `Machine(Time)` if a text isn't a time, then
-/// `Machine(Backwards)` if a span ends before its start, then `Machine(Length)` if a text isn't a length, and then
+/// `Machine(Backwards)` if a span ends before its start, then `Machine(EmptySpan)` if one that is to be clear ends at its start, then
+/// `Machine(Length)` if a text isn't a length, and then
 /// `Machine(Number)` if a size of a plan is out of its range.
 pub(crate) fn goal_at<F: Files>(
     alloc: Global,
@@ -49,6 +50,7 @@ pub(crate) fn goal_at<F: Files>(
         }
         MachineGoal::Plan { span, sizes, view } => {
             let span = span_at(alloc, span, now, clock)?;
+            let span = filled_by(*view, clock, span)?;
             let sizes = sizes_in(*sizes)?;
             let planning = Planning {
                 span,
@@ -123,6 +125,19 @@ fn span_at(alloc: Global, span: &SpanRequest, now: u64, clock: &Clock) -> Result
             Err(Failure::Machine(MachineFault::Backwards(start)))
         }
     }
+}
+
+// Returns the span of a view of a plan, if it isn't empty or may be: one that is to be clear may not.
+fn filled_by(view: PlanView, clock: &Clock, span: Span) -> Result<Span, Failure>
+    ensures { filled_by view clock.now span result }
+{
+    let (since, upto) = (span.since(), span.upto());
+    if view != PlanView::First || since != upto {
+        return Ok(span);
+    }
+    let mut start = LocalStamp::new();
+    start.show(clock, since);
+    Err(Failure::Machine(MachineFault::EmptySpan(start)))
 }
 
 // Returns the time of an option, at which a span starts or after which starts are listed.

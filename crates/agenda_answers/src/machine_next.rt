@@ -72,7 +72,7 @@ fn starts_at<F: Files, T: Tree>(
 ) -> Result<NextStarts, Failure>
     ensures { starts_at (F.held files.old) (host_of T.is_known (T.held host.now.tree.now) host.now.time host.now.frame) request.now result }
 {
-    let clock = machine_clock(alloc, files, host.tree, "", &request.zone)?;
+    let clock = machine_clock(alloc, files, host.tree, &request.zone)?;
     let after = after_at(alloc, host.time, &clock.clock, &request.after)?;
     number_in(NumberOption::Count, u64::from(request.count))?;
     let unnamed = unnamed_zone(clock.is_of_file);

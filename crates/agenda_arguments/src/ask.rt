@@ -164,8 +164,10 @@ pub struct MachineJobs {
     pub goal: MachineGoal,
     /// The text of the time zone of the rules. It is that of the machine if this is missing.
     pub zone: Option<Text>,
-    /// The names of jobs that are left out of the answer, as it prints them.
+    /// The patterns of the names of what is left out of the answer: of jobs, timers and crontabs.
     pub except: JobNames,
+    /// The patterns of the names of what isn't left out of it, or nothing if that is all.
+    pub only: JobNames,
     /// Whether the delays of timers count, so that a start may happen later than planned.
     pub delays: bool,
     /// Whether an error in a file stops the answer. If it doesn't, errors are skipped and reported.
@@ -194,8 +196,10 @@ pub struct MachineCheck {
 pub struct MachineDescribe {
     /// The text of the time zone of the rules. It is that of the machine if this is missing.
     pub zone: Option<Text>,
-    /// The names of jobs that are left out of the answer, as it prints them.
+    /// The patterns of the names of what is left out of the answer: of jobs, timers and crontabs.
     pub except: JobNames,
+    /// The patterns of the names of what isn't left out of it, or nothing if that is all.
+    pub only: JobNames,
     /// Whether an error in a file stops the answer. If it doesn't, errors are skipped and reported.
     pub strict: bool,
     /// Whether idle jobs, whose commands do nothing on the machine, are in the answer. If they aren't, they are reported.

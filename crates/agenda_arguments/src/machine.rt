@@ -293,6 +293,7 @@ fn asked_by_machine_describe(alloc: Global, given: &ArgMatches<'_>) -> Result<As
     let describe = MachineDescribe {
         zone,
         except: names_of(alloc, given, "except")?,
+        only: names_of(alloc, given, "only")?,
         strict: is_given(given, "strict"),
         idle: is_given(given, "idle"),
         json,
@@ -321,6 +322,7 @@ fn asked_of_jobs(
 {
     let zone = machine_zone(alloc, given)?;
     let except = names_of(alloc, given, "except")?;
+    let only = names_of(alloc, given, "only")?;
     let table = table_for(alloc, given, &goal)?;
     let strict = is_given(given, "strict");
     let idle = is_given(given, "idle");
@@ -329,6 +331,7 @@ fn asked_of_jobs(
         goal,
         zone,
         except,
+        only,
         delays,
         strict,
         idle,

@@ -4,17 +4,17 @@ use Rattle.std.specs.Str.{str_eq_ignore_ascii_case}
 use Rattle.agenda_codes.specs.declared.code.Code.{Code}
 use Rattle.agenda_codes.specs.declared.code.Code.TheVariants.{Backwards, BadBaseline, BadBoolean, BadCount, BadDelay, BadForm, BadLeast, BadLength, BadLimit, BadLine}
 use Rattle.agenda_codes.specs.declared.code.Code.TheVariants.{BadName, BadNumber, BadSetting, BadSize, BadTabName, BadTime, BadTimerName, BadZone}
-use Rattle.agenda_codes.specs.declared.code.Code.TheVariants.{BadZoneName, CarriageReturn, Delayed, Device, EitherDay, Fraction}
+use Rattle.agenda_codes.specs.declared.code.Code.TheVariants.{BadZoneName, CarriageReturn, Delayed, Device, EitherDay, EmptySpan, Fraction}
 use Rattle.agenda_codes.specs.declared.code.Code.TheVariants.{Full, Monotonic, NeverStarts, NoCommand, NoEvents, NoMemory}
-use Rattle.agenda_codes.specs.declared.code.Code.TheVariants.{NoSuchDate, NoSuchZone, NoTimerSection, NotSettled, NotUtf8}
+use Rattle.agenda_codes.specs.declared.code.Code.TheVariants.{NoSuchDate, NoSuchZone, NoTimerSection, NotSettled, NotUtf8, NothingNamed}
 use Rattle.agenda_codes.specs.declared.code.Code.TheVariants.{OutOfRange, OutOfYears, Percent, SameName, SkippedStarts, Specifier}
 use Rattle.agenda_codes.specs.declared.code.Code.TheVariants.{TooLarge, TooMany, TooManyLines, TooManySteps, UnknownKey}
 use Rattle.agenda_codes.specs.declared.code.Code.TheVariants.{UnknownWord, WrongParts, ZeroStep, Zone, ZoneSetting}
 use Rattle.agenda_codes.specs.declared.code.Code.TheVariants.{CronDiffers, CronIgnores, LineEnd, MayStop, Merged, NoUser, RangeFromEnd, SystemdRejects, TimerRejected, UnitIgnored}
 use Rattle.agenda_codes.specs.declared.texts.sentences.TheConstants as sentence
 use Rattle.agenda_codes.specs.declared.texts.requests.TheConstants.{BAD_BASELINE, BAD_COUNT, BAD_FORM, BAD_LEAST, BAD_LENGTH, BAD_LIMIT, BAD_SIZE, BAD_TIME, BAD_ZONE}
-use Rattle.agenda_codes.specs.declared.texts.requests.TheConstants.{BAD_ZONE_NAME, DEVICE, NO_MEMORY, NO_SUCH_DATE, NO_SUCH_ZONE}
-use Rattle.agenda_codes.specs.declared.texts.requests.TheConstants.{NOT_SETTLED, OUT_OF_YEARS, TOO_MANY}
+use Rattle.agenda_codes.specs.declared.texts.requests.TheConstants.{BAD_ZONE_NAME, DEVICE, EMPTY_SPAN, NO_MEMORY, NO_SUCH_DATE, NO_SUCH_ZONE}
+use Rattle.agenda_codes.specs.declared.texts.requests.TheConstants.{NOTHING_NAMED, NOT_SETTLED, OUT_OF_YEARS, TOO_MANY}
 use Rattle.agenda_codes.specs.declared.texts.rules.TheConstants.{BACKWARDS, BAD_NAME, BAD_NUMBER, FRACTION, OUT_OF_RANGE, SPECIFIER}
 use Rattle.agenda_codes.specs.declared.texts.rules.TheConstants.{UNKNOWN_WORD, WRONG_PARTS, ZERO_STEP, ZONE}
 use Rattle.agenda_codes.specs.declared.texts.files.TheConstants.{BAD_LINE, BAD_SETTING, BAD_TAB_NAME, BAD_TIMER_NAME, FULL}
@@ -28,9 +28,9 @@ use Rattle.agenda_codes.specs.declared.texts.warnings.TheConstants.{CRON_DIFFERS
 unfoldable pub all_codes : List Code
 all_codes = Backwards ∷ BadBaseline ∷ BadBoolean ∷ BadCount ∷ BadDelay ∷ BadForm ∷ BadLeast ∷ BadLength ∷ BadLimit ∷ BadLine ∷ BadName
     ∷ BadNumber ∷ BadSetting ∷ BadSize ∷ BadTabName ∷ BadTime ∷ BadTimerName ∷ BadZone ∷ BadZoneName ∷ CarriageReturn
-    ∷ CronDiffers ∷ CronIgnores ∷ Delayed ∷ Device ∷ EitherDay ∷ Fraction ∷ Full ∷ LineEnd ∷ MayStop ∷ Merged
+    ∷ CronDiffers ∷ CronIgnores ∷ Delayed ∷ Device ∷ EitherDay ∷ EmptySpan ∷ Fraction ∷ Full ∷ LineEnd ∷ MayStop ∷ Merged
     ∷ Monotonic ∷ NeverStarts ∷ NoCommand ∷ NoEvents ∷ NoMemory ∷ NoSuchDate ∷ NoSuchZone ∷ NoTimerSection ∷ NoUser
-    ∷ NotSettled ∷ NotUtf8 ∷ OutOfRange ∷ OutOfYears ∷ Percent ∷ RangeFromEnd ∷ SameName ∷ SkippedStarts ∷ Specifier
+    ∷ NotSettled ∷ NotUtf8 ∷ NothingNamed ∷ OutOfRange ∷ OutOfYears ∷ Percent ∷ RangeFromEnd ∷ SameName ∷ SkippedStarts ∷ Specifier
     ∷ SystemdRejects ∷ TimerRejected ∷ TooLarge ∷ TooMany ∷ TooManyLines ∷ TooManySteps ∷ UnitIgnored ∷ UnknownKey
     ∷ UnknownWord ∷ WrongParts ∷ ZeroStep ∷ Zone ∷ ZoneSetting ∷ []
 
@@ -61,6 +61,7 @@ name_of CronIgnores = codes "CronIgnores"
 name_of Delayed = codes "Delayed"
 name_of Device = codes "Device"
 name_of EitherDay = codes "EitherDay"
+name_of EmptySpan = codes "EmptySpan"
 name_of Fraction = codes "Fraction"
 name_of Full = codes "Full"
 name_of LineEnd = codes "LineEnd"
@@ -77,6 +78,7 @@ name_of NoTimerSection = codes "NoTimerSection"
 name_of NoUser = codes "NoUser"
 name_of NotSettled = codes "NotSettled"
 name_of NotUtf8 = codes "NotUtf8"
+name_of NothingNamed = codes "NothingNamed"
 name_of OutOfRange = codes "OutOfRange"
 name_of OutOfYears = codes "OutOfYears"
 name_of Percent = codes "Percent"
@@ -133,6 +135,7 @@ sentence_of CronIgnores = sentence.CRON_IGNORES.now
 sentence_of Delayed = sentence.DELAYED.now
 sentence_of Device = sentence.DEVICE.now
 sentence_of EitherDay = sentence.EITHER_DAY.now
+sentence_of EmptySpan = sentence.EMPTY_SPAN.now
 sentence_of Fraction = sentence.FRACTION.now
 sentence_of Full = sentence.FULL.now
 sentence_of LineEnd = sentence.LINE_END.now
@@ -149,6 +152,7 @@ sentence_of NoTimerSection = sentence.NO_TIMER_SECTION.now
 sentence_of NoUser = sentence.NO_USER.now
 sentence_of NotSettled = sentence.NOT_SETTLED.now
 sentence_of NotUtf8 = sentence.NOT_UTF8.now
+sentence_of NothingNamed = sentence.NOTHING_NAMED.now
 sentence_of OutOfRange = sentence.OUT_OF_RANGE.now
 sentence_of OutOfYears = sentence.OUT_OF_YEARS.now
 sentence_of Percent = sentence.PERCENT.now
@@ -197,6 +201,7 @@ text_of CronIgnores = CRON_IGNORES.now
 text_of Delayed = DELAYED.now
 text_of Device = DEVICE.now
 text_of EitherDay = EITHER_DAY.now
+text_of EmptySpan = EMPTY_SPAN.now
 text_of Fraction = FRACTION.now
 text_of Full = FULL.now
 text_of LineEnd = LINE_END.now
@@ -213,6 +218,7 @@ text_of NoTimerSection = NO_TIMER_SECTION.now
 text_of NoUser = NO_USER.now
 text_of NotSettled = NOT_SETTLED.now
 text_of NotUtf8 = NOT_UTF8.now
+text_of NothingNamed = NOTHING_NAMED.now
 text_of OutOfRange = OUT_OF_RANGE.now
 text_of OutOfYears = OUT_OF_YEARS.now
 text_of Percent = PERCENT.now

@@ -60,6 +60,8 @@ pub enum Code {
     Device,
     /// Both day fields are restricted, so the job starts on each day that either of them matches.
     EitherDay,
+    /// The span of 'clear' has no second: --until isn't after --since.
+    EmptySpan,
     /// The second of a calendar event has a fraction.
     Fraction,
     /// There are more than 1,000 jobs.
@@ -92,6 +94,8 @@ pub enum Code {
     NotSettled,
     /// The bytes of the file aren't UTF-8.
     NotUtf8,
+    /// No job, timer or crontab has such a name.
+    NothingNamed,
     /// A value is outside the range of its part.
     OutOfRange,
     /// A time is before 1970, or after 3000-01-01T00:00:00Z.
@@ -138,7 +142,7 @@ pub enum Code {
 impl Code {
     /// Returns all codes, in the order of their names.
     #[tactic(auto, unfolding(crate::specs::Codes::all_codes))]
-    pub fn all() -> [Code; 61]
+    pub fn all() -> [Code; 63]
         ensures { result ≡ all_codes }
     {
         [
@@ -167,6 +171,7 @@ impl Code {
             Code::Delayed,
             Code::Device,
             Code::EitherDay,
+            Code::EmptySpan,
             Code::Fraction,
             Code::Full,
             Code::LineEnd,
@@ -183,6 +188,7 @@ impl Code {
             Code::NoUser,
             Code::NotSettled,
             Code::NotUtf8,
+            Code::NothingNamed,
             Code::OutOfRange,
             Code::OutOfYears,
             Code::Percent,
@@ -238,6 +244,7 @@ impl Code {
             Code::Delayed => "Delayed",
             Code::Device => "Device",
             Code::EitherDay => "EitherDay",
+            Code::EmptySpan => "EmptySpan",
             Code::Fraction => "Fraction",
             Code::Full => "Full",
             Code::LineEnd => "LineEnd",
@@ -254,6 +261,7 @@ impl Code {
             Code::NoUser => "NoUser",
             Code::NotSettled => "NotSettled",
             Code::NotUtf8 => "NotUtf8",
+            Code::NothingNamed => "NothingNamed",
             Code::OutOfRange => "OutOfRange",
             Code::OutOfYears => "OutOfYears",
             Code::Percent => "Percent",
@@ -329,6 +337,7 @@ impl Code {
             Code::Delayed => sentences::DELAYED,
             Code::Device => sentences::DEVICE,
             Code::EitherDay => sentences::EITHER_DAY,
+            Code::EmptySpan => sentences::EMPTY_SPAN,
             Code::Fraction => sentences::FRACTION,
             Code::Full => sentences::FULL,
             Code::LineEnd => sentences::LINE_END,
@@ -345,6 +354,7 @@ impl Code {
             Code::NoUser => sentences::NO_USER,
             Code::NotSettled => sentences::NOT_SETTLED,
             Code::NotUtf8 => sentences::NOT_UTF8,
+            Code::NothingNamed => sentences::NOTHING_NAMED,
             Code::OutOfRange => sentences::OUT_OF_RANGE,
             Code::OutOfYears => sentences::OUT_OF_YEARS,
             Code::Percent => sentences::PERCENT,
@@ -398,6 +408,7 @@ impl Code {
             Code::Delayed => warnings::DELAYED,
             Code::Device => requests::DEVICE,
             Code::EitherDay => warnings::EITHER_DAY,
+            Code::EmptySpan => requests::EMPTY_SPAN,
             Code::Fraction => rules::FRACTION,
             Code::Full => files::FULL,
             Code::LineEnd => warnings::LINE_END,
@@ -414,6 +425,7 @@ impl Code {
             Code::NoUser => warnings::NO_USER,
             Code::NotSettled => requests::NOT_SETTLED,
             Code::NotUtf8 => files::NOT_UTF8,
+            Code::NothingNamed => requests::NOTHING_NAMED,
             Code::OutOfRange => rules::OUT_OF_RANGE,
             Code::OutOfYears => requests::OUT_OF_YEARS,
             Code::Percent => warnings::PERCENT,

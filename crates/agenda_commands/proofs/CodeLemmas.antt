@@ -269,6 +269,12 @@ ends_machine (machine.Length text) =
 ends_machine (machine.Number option number) = ends_number option number
 ends_machine (machine.Backwards since) =
     longer (codes "agenda: --until is before --since (") _ (longer since _ (in_words (codes ") ") code.Backwards))
+ends_machine (machine.EmptySpan since) =
+    longer (codes "agenda: --until is not after --since (") _ (longer since _ (in_words (codes ") ") code.EmptySpan))
+ends_machine (machine.NothingExcepted pattern) =
+    longer (codes "agenda: --except: nothing is named '") _ (longer pattern _ (in_words (codes "' ") code.NothingNamed))
+ends_machine (machine.NothingChosen pattern) =
+    longer (codes "agenda: --only: nothing is named '") _ (longer pattern _ (in_words (codes "' ") code.NothingNamed))
 ends_machine (machine.Zone text fault like) = ends_named_zone text fault like
 ends_machine machine.Clock = in_words (codes "agenda: the system clock is after 2999: set it ") code.OutOfYears
 
@@ -283,5 +289,6 @@ ends_failure sources (failure.BadBaseline path line) has =
     longer (codes "agenda: ") _ (longer path _ (longer (codes ":") _ (longer (decimal line) _
     (in_words (codes ": not a line of agenda plan ") code.BadBaseline))))
 ends_failure sources (failure.NotDirectory root) has = absurd has
+ends_failure sources (failure.NoSystem root) has = absurd has
 ends_failure sources (failure.TooManyUnits root) has = absurd has
 ends_failure sources (failure.Machine fault) has = ends_machine fault

@@ -69,6 +69,7 @@ ComesInRun other = ⊤
 abbrev pub HasLine : Failure → Type 0
 HasLine (failure.Usage text) = ⊥
 HasLine (failure.NotDirectory root) = ⊥
+HasLine (failure.NoSystem root) = ⊥
 HasLine (failure.TooManyUnits root) = ⊥
 HasLine (failure.Run fault) = ComesInRun fault
 HasLine other = ⊤

@@ -7,7 +7,7 @@ use Rattle.agenda_script.specs.declared.fault.ScriptCause.TheVariants as script
 use Rattle.agenda_faults.specs.declared.faults.RunFault.{RunFault}
 use Rattle.agenda_faults.specs.declared.faults.RunFault.TheVariants.{NoMemory, BadCount, Rule, InSource, SameName, Full, Plan, Script, Device, BadLeast, TooManyStarts}
 use Rattle.agenda_faults.specs.declared.faults.Failure.{Failure}
-use Rattle.agenda_faults.specs.declared.faults.Failure.TheVariants.{Usage, Moment, Span, Zone, Run, File, BadBaseline, NotDirectory, TooManyUnits, Machine}
+use Rattle.agenda_faults.specs.declared.faults.Failure.TheVariants.{Usage, Moment, Span, Zone, Run, File, BadBaseline, NotDirectory, NoSystem, TooManyUnits, Machine}
 use Rattle.agenda_faults.specs.declared.machine_faults.TimeOption.{TimeOption}
 use Rattle.agenda_faults.specs.declared.machine_faults.TimeOption.TheVariants as option
 use Rattle.plan_rules.specs.declared.LineCause.{LineCause}
@@ -141,5 +141,6 @@ fault_text sources (Run fault) = run_line sources fault
 fault_text sources (File path) = codes "agenda: " ++ (path ++ codes ": Device\n")
 fault_text sources (BadBaseline path line) = baseline_line path line
 fault_text sources (NotDirectory root) = codes "agenda: " ++ (root ++ codes ": not a directory\n")
+fault_text sources (NoSystem root) = codes "agenda: " ++ (root ++ codes ": neither etc nor usr is there\n")
 fault_text sources (TooManyUnits root) = codes "agenda: " ++ (root ++ codes ": more than 10000 units\n")
 fault_text sources (Machine fault) = machine_line fault

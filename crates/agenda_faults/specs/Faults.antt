@@ -6,7 +6,7 @@ use Rattle.plan_rules.specs.declared.RuleCause.TheVariants as cause
 use Rattle.agenda_faults.specs.declared.faults.RunFault.{RunFault}
 use Rattle.agenda_faults.specs.declared.faults.RunFault.TheVariants.{NoMemory, BadCount, Rule, InSource, SameName, Full, Plan, Script, Device, BadLeast, TooManyStarts}
 use Rattle.agenda_faults.specs.declared.faults.Failure.{Failure}
-use Rattle.agenda_faults.specs.declared.faults.Failure.TheVariants.{Usage, Moment, Span, Zone, Run, File, BadBaseline, NotDirectory, TooManyUnits, Machine}
+use Rattle.agenda_faults.specs.declared.faults.Failure.TheVariants.{Usage, Moment, Span, Zone, Run, File, BadBaseline, NotDirectory, NoSystem, TooManyUnits, Machine}
 use Rattle.agenda_faults.specs.declared.machine_faults.MachineFault.{MachineFault}
 use Rattle.agenda_faults.specs.declared.machine_faults.MachineFault.TheVariants as machine
 use Rattle.plan_rules.specs.declared.LineCause.{LineCause}
@@ -121,5 +121,6 @@ status_of (Run fault) = run_status fault
 status_of (File path) = failed_status
 status_of (BadBaseline path line) = rejected_status
 status_of (NotDirectory root) = rejected_status
+status_of (NoSystem root) = rejected_status
 status_of (TooManyUnits root) = rejected_status
 status_of (Machine fault) = machine_status fault

@@ -5,7 +5,7 @@ use Rattle.plan_times.specs.declared.fault.TimeFault.TheVariants.{BadTime, OutOf
 use Rattle.plan_zones.specs.declared.zone_fault.ZoneFault.{ZoneFault}
 use Rattle.plan_zones.specs.declared.zone_fault.ZoneFault.TheVariants as zone
 use Rattle.agenda_faults.specs.declared.machine_faults.MachineFault.{MachineFault}
-use Rattle.agenda_faults.specs.declared.machine_faults.MachineFault.TheVariants.{Time, Length, Number, Backwards, Zone, Clock}
+use Rattle.agenda_faults.specs.declared.machine_faults.MachineFault.TheVariants.{Time, Length, Number, Backwards, EmptySpan, NothingExcepted, NothingChosen, Zone, Clock}
 use Rattle.agenda_faults.specs.declared.machine_faults.NumberOption.{NumberOption}
 use Rattle.agenda_faults.specs.declared.machine_faults.NumberOption.TheVariants as number
 use Rattle.agenda_faults.specs.declared.machine_faults.TimeOption.{TimeOption}
@@ -65,6 +65,10 @@ number_line option number =
 abbrev pub backwards_line : (since : List ℕ) → List ℕ
 backwards_line since = codes "agenda: --until is before --since (" ++ (since ++ codes ") [Backwards]\n")
 
+-- a span that is to be clear and whose end is its start, of which this is the text
+abbrev pub empty_span_line : (since : List ℕ) → List ℕ
+empty_span_line since = codes "agenda: --until is not after --since (" ++ (since ++ codes ") [EmptySpan]\n")
+
 -- a zone that can't be used, with what is wrong with it
 abbrev pub zone_line_with : (text words : List ℕ) → List ℕ
 zone_line_with text words = codes "agenda: zone '" ++ (text ++ words)
@@ -95,5 +99,8 @@ machine_line (Length text) =
     codes "agenda: --least: not a length: '" ++ (text ++ codes "' (such as '90min' or '2h') [BadLength]\n")
 machine_line (Number option number) = number_line option number
 machine_line (Backwards since) = backwards_line since
+machine_line (EmptySpan since) = empty_span_line since
+machine_line (NothingExcepted pattern) = codes "agenda: --except: nothing is named '" ++ (pattern ++ codes "' [NothingNamed]\n")
+machine_line (NothingChosen pattern) = codes "agenda: --only: nothing is named '" ++ (pattern ++ codes "' [NothingNamed]\n")
 machine_line (Zone text fault like) = named_zone_line text fault like
 machine_line Clock = codes "agenda: the system clock is after 2999: set it [OutOfYears]\n"

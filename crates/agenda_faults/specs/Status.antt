@@ -13,6 +13,10 @@ rejected_status = 1
 abbrev pub usage_status : ℕ
 usage_status = 2
 
+-- no planned job may start in a span, but something may start at times that can't be told (agenda)
+abbrev pub unknown_status : ℕ
+unknown_status = 4
+
 -- an allocation, a device or a file failed, or it isn't known what a planner sent (agenda)
 abbrev pub failed_status : ℕ
 failed_status = 3

@@ -69,6 +69,14 @@ fn put_failure<S: Stream>(failure: &Failure, sources: &[SourcePath], line: &mut 
         Failure::NotDirectory(root) => {
             put_between(b"agenda: ", root.as_str(), b": not a directory\n", line);
         }
+        Failure::NoSystem(root) => {
+            put_between(
+                b"agenda: ",
+                root.as_str(),
+                b": neither etc nor usr is there\n",
+                line,
+            );
+        }
         Failure::TooManyUnits(root) => {
             put_between(
                 b"agenda: ",

@@ -166,6 +166,8 @@ pub enum Failure {
     BadBaseline(Text, u32),
     /// The root of a machine, which has this path, isn't a directory.
     NotDirectory(Text),
+    /// The root of a machine, which has this path, has neither etc nor usr.
+    NoSystem(Text),
     /// The boot of the machine whose root has this path reaches more than 10,000 units.
     TooManyUnits(Text),
     /// A question about a machine can't be answered.
@@ -237,7 +239,7 @@ impl Failure {
             Failure::Run(fault) => fault.status(),
             Failure::File(_) => FAILED,
             Failure::BadBaseline(_, _) => REJECTED,
-            Failure::NotDirectory(_) | Failure::TooManyUnits(_) => REJECTED,
+            Failure::NotDirectory(_) | Failure::NoSystem(_) | Failure::TooManyUnits(_) => REJECTED,
             Failure::Machine(fault) => machine_status(fault),
         }
     }

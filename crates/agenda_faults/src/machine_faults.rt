@@ -96,6 +96,12 @@ pub enum MachineFault {
     Number(NumberOption, u64),
     /// The end of a span is before its start, which is this time.
     Backwards(LocalStamp),
+    /// The end of a span that is to be clear is its start, which is this time.
+    EmptySpan(LocalStamp),
+    /// Nothing has a name that fits this pattern of `--except`.
+    NothingExcepted(Text),
+    /// Nothing has a name that fits this pattern of `--only`.
+    NothingChosen(Text),
     /// The zone with this text can't be used. If there is no such zone, the name of the zone that may be meant follows.
     Zone(Text, ZoneFault, Option<Text>),
     /// The system clock shows a time after the planner's years.

@@ -2,7 +2,7 @@
 
 ghost use Rattle.std.specs.Prelude.{◌≡◌};
 ghost use Rattle.plan_streams.specs.Writer.{Takes};
-ghost use Rattle.agenda_faults.specs.MachineLines.{backwards_line, machine_line, named_zone_line, no_zone_line, number_line, range_words, time_line, time_words, too_many_line};
+ghost use Rattle.agenda_faults.specs.MachineLines.{backwards_line, empty_span_line, machine_line, named_zone_line, no_zone_line, number_line, range_words, time_line, time_words, too_many_line};
 
 use crate::fault_lines::{MEMORY_LINE, put_between};
 use crate::machine_faults::{MachineFault, NumberOption, TimeOption};
@@ -29,6 +29,19 @@ pub(crate) fn put_machine_fault<S: Stream>(fault: &MachineFault, line: &mut Text
         ),
         MachineFault::Number(option, number) => put_number(*option, *number, line),
         MachineFault::Backwards(since) => put_backwards(since, line),
+        MachineFault::EmptySpan(since) => put_empty_span(since, line),
+        MachineFault::NothingExcepted(pattern) => put_between(
+            b"agenda: --except: nothing is named '",
+            pattern.as_str(),
+            b"' [NothingNamed]\n",
+            line,
+        ),
+        MachineFault::NothingChosen(pattern) => put_between(
+            b"agenda: --only: nothing is named '",
+            pattern.as_str(),
+            b"' [NothingNamed]\n",
+            line,
+        ),
         MachineFault::Zone(text, fault, like) => {
             put_named_zone(text.as_str(), *fault, like, line);
         }
@@ -102,6 +115,15 @@ fn put_backwards<S: Stream>(since: &LocalStamp, line: &mut TextWriter<'_, S>)
     line.put(b"agenda: --until is before --since (");
     since.put(line);
     line.put(b") [Backwards]\n");
+}
+
+// Puts the line of a span that is to be clear and whose end is its start.
+fn put_empty_span<S: Stream>(since: &LocalStamp, line: &mut TextWriter<'_, S>)
+    ensures { Takes S.holds S.takes_all line.old line.new (empty_span_line since.now) }
+{
+    line.put(b"agenda: --until is not after --since (");
+    since.put(line);
+    line.put(b") [EmptySpan]\n");
 }
 
 // Puts the line of a zone that can't be used, with its text.

@@ -9,5 +9,8 @@ pub const REJECTED: u8 = 1;
 /// The exit status if the arguments are invalid.
 pub const USAGE: u8 = 2;
 
+/// The exit status of `clear` if no planned job may start, but something may start at times that can't be told.
+pub const UNKNOWN: u8 = 4;
+
 /// The exit status if an allocation, a device or a file failed, or if the planners' accounts don't agree.
 pub const FAILED: u8 = 3;

@@ -1,5 +1,5 @@
 -- The clock of a machine's time zone (localtime(5)).
-use Rattle.std.specs.Prelude.{◌≡◌, ◌≢◌, ◌⊎◌, ℕ, Bool, true, false, List, [], codes, ◌++◌, Option, None, Some, Result, Ok, Err}
+use Rattle.std.specs.Prelude.{◌≡◌, ◌≢◌, ◌⊎◌, ℕ, Bool, true, false, List, [], Option, None, Some, Result, Ok, Err}
 use Rattle.plan_clock.specs.declared.row.Change.{Change}
 use Rattle.plan_machine.specs.Zone.{Zone, machine_zone}
 use Rattle.plan_machine.specs.Zone as zone
@@ -9,14 +9,14 @@ use Rattle.plan_zones.specs.ZoneTexts.{Source, Utc, Path, Name, source_of}
 use Rattle.plan_zones.specs.declared.zone_fault.ZoneFault.{ZoneFault}
 use Rattle.plan_zones.specs.declared.zone_fault.ZoneFault.TheVariants.{NoSuchZone}
 use Rattle.agenda_faults.specs.declared.faults.Failure.{Failure}
-use Rattle.agenda_faults.specs.declared.faults.Failure.TheVariants.{File, Run}
+use Rattle.agenda_faults.specs.declared.faults.Failure.TheVariants.{Run}
 use Rattle.agenda_faults.specs.declared.faults.Failure.TheVariants as failure
 use Rattle.agenda_faults.specs.declared.machine_faults.MachineFault.TheVariants as machine
 use Rattle.agenda_faults.specs.declared.faults.RunFault.TheVariants as run
 use Rattle.agenda_inputs.specs.declared.machine_zone.ZoneClock.{ZoneClock}
 use Rattle.agenda_inputs.specs.EventZones.{looked_up}
 use Rattle.agenda_inputs.specs.Files.{Held, most_read}
-use Rattle.agenda_inputs.specs.Steps.{Step, computes, gives, ◌>>=◌}
+use Rattle.agenda_inputs.specs.Steps.{Step, computes, fails, gives, ◌>>=◌}
 use Rattle.agenda_inputs.specs.Suggestion.{suggestion}
 use Rattle.agenda_inputs.specs.Zone.{clock_of, clock_of_bytes}
 
@@ -76,19 +76,19 @@ abbrev pub clock_if_found : Option NamedZone → Step ZoneClock
 clock_if_found None = gives (utc_clock true)
 clock_if_found (Some zone) = gives (record { name = Some zone.name; is_of_file = false; clock = zone.clock; is_unknown = false })
 
--- a zone's file below the root. If it is invalid, the failure has this text of the zone
-abbrev pub file_clock : Held → (text bytes : List ℕ) → Step (List Change)
-file_clock held text bytes = naming_zone held text (clock_of_bytes bytes)
+-- the zone of a file with this clock, with its name if it has one. What is no TZif file tells no zone
+abbrev pub told_zone : (name : Option (List ℕ)) → Result (List Change) Failure → Step ZoneClock
+told_zone name (Ok clock) = gives (record { name = name; is_of_file = true; clock = clock; is_unknown = false })
+told_zone name (Err (failure.Zone fault)) = gives (utc_clock true)
+told_zone name (Err other) = fails other
 
--- the zone of such a file, with its name if it has one
-abbrev pub zone_of_file : (name : Option (List ℕ)) → (clock : List Change) → ZoneClock
-zone_of_file name clock = record { name = name; is_of_file = true; clock = clock; is_unknown = false }
+-- the zone of a file below the root with these bytes
+abbrev pub zone_of_file : (name : Option (List ℕ)) → (bytes : List ℕ) → Step ZoneClock
+zone_of_file name bytes end = (clock : Result (List Change) Failure) × clock_of_bytes bytes clock × told_zone name clock end
 
 -- the file of a named zone is that below the root, or else that of the running machine
 abbrev pub named_clock : Held → List ℕ → Option (List ℕ) → Step ZoneClock
-named_clock held name (Some bytes) = do
-  clock ← file_clock held name bytes
-  gives (zone_of_file (Some name) clock)
+named_clock held name (Some bytes) = zone_of_file (Some name) bytes
 named_clock held name None = do
   zone ← looked_up held name
   clock_if_found zone
@@ -100,28 +100,17 @@ clock_by_name held name bytes (Ok (Path path)) = gives (utc_clock true)
 clock_by_name held name bytes (Ok (Name same)) = named_clock held name bytes
 clock_by_name held name bytes (Err fault) = gives (utc_clock true)
 
--- the path of the file of the machine's zone, below a root
-abbrev pub local_path : (root : List ℕ) → List ℕ
-local_path root = root ++ codes "/etc/localtime"
-
--- the file of a zone without a name has its path in a failure
-abbrev pub local_clock : Held → (root bytes : List ℕ) → Step ZoneClock
-local_clock held root bytes = do
-  path ← computes (local_path root)
-  clock ← file_clock held path bytes
-  gives (zone_of_file None clock)
-
 -- the clock of a machine's own zone
-abbrev pub clock_by_zone : Held → (root : List ℕ) → Zone → Step ZoneClock
-clock_by_zone held root zone.Utc = gives (utc_clock false)
-clock_by_zone held root (zone.Named name bytes) = clock_by_name held name bytes (source_of name)
-clock_by_zone held root (zone.Local (Some bytes)) = local_clock held root bytes
-clock_by_zone held root (zone.Local None) = fails_with (File (local_path root))
-clock_by_zone held root zone.Unknown = gives (utc_clock true)
+abbrev pub clock_by_zone : Held → Zone → Step ZoneClock
+clock_by_zone held zone.Utc = gives (utc_clock false)
+clock_by_zone held (zone.Named name bytes) = clock_by_name held name bytes (source_of name)
+clock_by_zone held (zone.Local (Some bytes)) = zone_of_file None bytes
+clock_by_zone held (zone.Local None) = gives (utc_clock true)
+clock_by_zone held zone.Unknown = gives (utc_clock true)
 
--- the clock of the zone that is given, or else that of the machine below a root
-abbrev pub machine_clock : Held → KnownTree → (root : List ℕ) → (given : Option (List ℕ)) → Step ZoneClock
-machine_clock held tree root (Some text) = given_clock held text
-machine_clock held tree root None = do
+-- the clock of the zone that is given, or else that of the machine
+abbrev pub machine_clock : Held → KnownTree → (given : Option (List ℕ)) → Step ZoneClock
+machine_clock held tree (Some text) = given_clock held text
+machine_clock held tree None = do
   zone ← looks tree (λ zone. zone ≡ machine_zone tree.held most_read)
-  clock_by_zone held root zone
+  clock_by_zone held zone

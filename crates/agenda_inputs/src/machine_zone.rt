@@ -1,7 +1,7 @@
 //! Reads the clock of a machine's time zone (localtime(5)).
 
 ghost use Rattle.std.specs.Prelude.{◌≡◌, IfOk, Ok, option_map};
-ghost use Rattle.agenda_inputs.specs.MachineZone.{clock_by_name, clock_by_zone, clock_if_found, fails_for_zone, file_clock, given_clock, local_clock, local_path, machine_clock, named_clock, names_zone, zone_of_file, suggestion_for, utc_clock};
+ghost use Rattle.agenda_inputs.specs.MachineZone.{clock_by_name, clock_by_zone, clock_if_found, fails_for_zone, given_clock, machine_clock, named_clock, names_zone, zone_of_file, suggestion_for, utc_clock};
 ghost use Rattle.plan_machine.specs.Zone.{zone_shown};
 ghost use Rattle.plan_zones.specs.ZoneTexts.{source_of};
 
@@ -30,27 +30,26 @@ pub struct ZoneClock {
     pub is_unknown: bool,
 }
 
-/// Reads the clock of the zone that is given, or else of the zone of the machine with this tree and this root.
+/// Reads the clock of the zone that is given, or else of the zone of the machine with this tree. What can't be read there, or is no
+/// TZif file, tells no zone.
 ///
 /// # Errors
 ///
-/// `Machine(Zone)` if the zone can't be used, with the text that is given, or else the name of the machine's zone, or the
-/// path of its file if it has no name; or `File` if its file can't be read.
+/// `Machine(Zone)` if the zone that is given can't be used, with its text.
 pub fn machine_clock<F: Files, T: Tree>(
     alloc: Global,
     files: &mut F,
     tree: &T,
-    root: &str,
     given: &Option<Text>,
 ) -> Result<ZoneClock, Failure>
-    ensures read { machine_clock (F.held files.old) (record { is_known = T.is_known; held = T.held tree.now }) root.now given.now result }
+    ensures read { machine_clock (F.held files.old) (record { is_known = T.is_known; held = T.held tree.now }) given.now result }
     ensures same { F.held files.new ≡ F.held files.old }
 {
     if let Some(text) = given {
         return given_clock(alloc, files, text.as_str());
     }
     let zone = machine_zone(alloc, tree, MOST_READ)?;
-    clock_by_zone(alloc, files, root, zone)
+    clock_by_zone(alloc, files, zone)
 }
 
 // Reads the clock of the zone that a text gives.
@@ -121,45 +120,17 @@ fn suggestion_for<F: Files>(
 fn clock_by_zone<F: Files>(
     alloc: Global,
     files: &mut F,
-    root: &str,
     zone: MachineZone,
 ) -> Result<ZoneClock, Failure>
-    ensures read { clock_by_zone (F.held files.old) root.now (zone_shown zone) result }
+    ensures read { clock_by_zone (F.held files.old) (zone_shown zone) result }
     ensures same { F.held files.new ≡ F.held files.old }
 {
     match zone {
         MachineZone::Utc => Ok(utc_clock(false)),
         MachineZone::Named { name, bytes } => clock_by_name(alloc, files, name, bytes),
-        MachineZone::Local { bytes: Some(bytes) } => {
-            local_clock(alloc, files, root, bytes.as_slice())
-        }
-        MachineZone::Local { bytes: None } => Err(Failure::File(local_path(alloc, root)?)),
-        MachineZone::Unknown => Ok(utc_clock(true)),
+        MachineZone::Local { bytes: Some(bytes) } => zone_of_file(alloc, None, bytes.as_slice()),
+        MachineZone::Local { bytes: None } | MachineZone::Unknown => Ok(utc_clock(true)),
     }
-}
-
-// Reads the clock of a machine's zone that has no name. These are the bytes of its file.
-fn local_clock<F: Files>(
-    alloc: Global,
-    files: &mut F,
-    root: &str,
-    bytes: &[u8],
-) -> Result<ZoneClock, Failure>
-    ensures read { local_clock (F.held files.old) root.now bytes.now result }
-    ensures same { F.held files.new ≡ F.held files.old }
-{
-    let path = local_path(alloc, root)?;
-    let clock = file_clock(alloc, files, path.as_str(), bytes)?;
-    Ok(zone_of_file(None, clock))
-}
-
-// Returns the path of the file of a machine's zone.
-fn local_path(alloc: Global, root: &str) -> Result<Text, AllocError>
-    ensures { IfOk result (λ path. path ≡ local_path root.now) }
-{
-    let mut path = String::from_str(alloc, root)?;
-    path.push_str("/etc/localtime")?;
-    Ok(Text::new(path))
 }
 
 // Reads the clock of the zone with a name. These are the bytes of its file below the root, if there is one.
@@ -193,8 +164,7 @@ fn named_clock<F: Files>(
         let zone = look_up(alloc, files, name.as_str())?;
         return Ok(clock_if_found(zone));
     };
-    let clock = file_clock(alloc, files, name.as_str(), bytes.as_slice())?;
-    Ok(zone_of_file(Some(name), clock))
+    zone_of_file(alloc, Some(name), bytes.as_slice())
 }
 
 // Returns the clock of a zone that the running machine has, or else that of an unknown zone.
@@ -224,29 +194,19 @@ fn utc_clock(is_unknown: bool) -> ZoneClock
     }
 }
 
-// Reads the clock of a zone's file. If it is invalid, the error has this text of the zone.
-fn file_clock<F: Files>(
-    alloc: Global,
-    files: &mut F,
-    text: &str,
-    bytes: &[u8],
-) -> Result<Clock, Failure>
-    ensures read { file_clock (F.held files.old) text.now bytes.now result }
-    ensures same { F.held files.new ≡ F.held files.old }
+// Returns the zone of a file with these bytes, with this name if it has one. What is no TZif file tells no zone.
+fn zone_of_file(alloc: Global, name: Option<Text>, bytes: &[u8]) -> Result<ZoneClock, Failure>
+    ensures { zone_of_file name bytes.now result }
 {
-    let clock = clock_of_bytes(alloc, bytes);
-    naming_zone(alloc, files, clock, text)
-}
-
-// Returns the zone of a file, with this name if it has one.
-fn zone_of_file(name: Option<Text>, clock: Clock) -> ZoneClock
-    ensures { result ≡ zone_of_file name clock }
-{
-    ZoneClock {
-        name,
-        is_of_file: true,
-        clock,
-        is_unknown: false,
+    match clock_of_bytes(alloc, bytes) {
+        Ok(clock) => Ok(ZoneClock {
+            name,
+            is_of_file: true,
+            clock,
+            is_unknown: false,
+        }),
+        Err(Failure::Zone(_)) => Ok(utc_clock(true)),
+        Err(failure) => Err(failure),
     }
 }
 

@@ -1,7 +1,6 @@
 pub mod Paths
 pub mod Listing
 pub mod Reports
-pub mod Monotonic
 pub mod Idle
 pub mod Loaded
 pub mod Scripts
@@ -9,3 +8,6 @@ pub mod JobFiles
 pub mod IdleJobs
 pub mod Places
 pub mod Root
+pub mod Unknown
+pub mod UnknownParts
+pub mod Choice

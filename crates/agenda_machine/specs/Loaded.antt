@@ -4,7 +4,6 @@ use Rattle.std.specs.List.{cons_option, flat_map}
 use Rattle.std.specs.Option.{option_map}
 use Rattle.agenda_sources.specs.declared.Source.{Source}
 use Rattle.agenda_machine.specs.Idle.{idle_reports, kept_text, whose_crontab}
-use Rattle.agenda_machine.specs.Monotonic.{with_monotonic}
 use Rattle.plan_loads.specs.Loading.{loading_of}
 use Rattle.plan_loads.specs.Texts.{KnownLoading}
 use Rattle.plan_machine.specs.Source.{SourceParts}
@@ -40,11 +39,11 @@ unloaded_from unplanned daemon (source ∷ more) =
 abbrev pub loaded_sources : Machine → List Source
 loaded_sources machine = loaded_from machine.unplanned.items machine.cron_daemon machine.sources.items
 
--- what isn't planned on a machine by a question about jobs: what isn't anyway, timers that start by monotonic settings alone, and what
--- isn't loaded by its text
+-- what isn't planned on a machine by a question about jobs: what isn't anyway, and what isn't loaded by its text or starts at times that
+-- this doesn't tell
 abbrev pub unplanned_jobs : Machine → List NotPlanned
 unplanned_jobs machine =
-    with_monotonic machine.sources.items machine.unplanned.items
+    machine.unplanned.items
     ++ unloaded_from machine.unplanned.items machine.cron_daemon machine.sources.items
 
 -- ---- idle jobs

@@ -5,24 +5,30 @@ use Rattle.std.specs.List.{flat_map, list_any}
 use Rattle.plan_machine.specs.declared.NotPlanned.{NotPlanned}
 use Rattle.plan_machine.specs.declared.Skipped.{Skipped}
 use Rattle.plan_machine.specs.declared.Unplanned.{Unplanned}
-use Rattle.plan_machine.specs.declared.Unplanned.TheVariants.{Idle, LineNotLoaded}
+use Rattle.plan_machine.specs.declared.Unplanned.TheVariants.{Idle, LineNotLoaded, LineUnknown}
 use Rattle.plan_machine.specs.declared.Why.{Why}
-use Rattle.plan_machine.specs.declared.Why.TheVariants.{NotReadable, NotUtf8}
-use Rattle.plan_timers.specs.Reports.{unplanned_text, why_text}
+use Rattle.plan_machine.specs.declared.Why.TheVariants.{NotReadable, NotUtf8, WantedBy}
+use Rattle.plan_timers.specs.Reports.{is_unknown, unplanned_text, why_text}
 use Rattle.agenda_machine.specs.declared.reports.Reports.{Reports}
 use Rattle.plan_write.specs.Shown.{shown}
 use Rattle.agenda_machine.specs.Paths.{below}
 
 -- ---- the lines
 
+-- what the line of something that is skipped begins with; a timer that a unit outside of the boot wants may start
+abbrev pub skipped_heading : Why → List ℕ
+skipped_heading (WantedBy unit) = codes "agenda: unknown: "
+skipped_heading other = codes "agenda: skipped "
+
 -- the line of something that is skipped
 unfoldable pub skipped_line : (root : List ℕ) → Skipped → List ℕ
 skipped_line root one =
-    codes "agenda: skipped " ++ (shown (below root one.path) ++ (codes ": " ++ (shown (why_text one.why) ++ codes "\n")))
+    skipped_heading one.why ++ (shown (below root one.path) ++ (codes ": " ++ (shown (why_text one.why) ++ codes "\n")))
 
 -- the number of a line that isn't planned
 abbrev pub line_mark : Unplanned → List ℕ
 line_mark (LineNotLoaded line why) = codes ":" ++ decimal line
+line_mark (LineUnknown line why) = codes ":" ++ decimal line
 line_mark (Idle line why) = codes ":" ++ decimal line
 line_mark other = []
 
@@ -33,7 +39,7 @@ place_of root one = shown (below root one.path) ++ line_mark one.why
 -- what the line of something that isn't planned begins with; an idle job starts, but runs nothing that has an effect
 abbrev pub heading : Unplanned → List ℕ
 heading (Idle line why) = codes "agenda: idle: "
-heading other = codes "agenda: not planned: "
+heading other = if is_unknown other then codes "agenda: unknown: " else codes "agenda: not planned: "
 
 -- the line of something that isn't planned
 unfoldable pub unplanned_line : (root : List ℕ) → NotPlanned → List ℕ

@@ -111,7 +111,7 @@ fn file_in(
 }
 
 // Returns what comes before the colon in the names of a crontab's jobs.
-fn label_of(kind: SourceKind, name: &str) -> &str
+pub(crate) fn label_of(kind: SourceKind, name: &str) -> &str
     ensures { result.now ≡ label_of kind name.now }
 {
     match kind {
@@ -133,7 +133,7 @@ fn line_in<'a>(label: &str, job: &'a str) -> Option<&'a str>
 
 // Returns what comes before and after the first colon of a name.
 #[tactic(auto, unfolding(crate::specs::JobFiles::cut_name))]
-fn cut_name(name: &str) -> Option<(&str, &str)>
+pub(crate) fn cut_name(name: &str) -> Option<(&str, &str)>
     ensures { option_map (λ cut. (cut.0.now, cut.1.now)) result ≡ cut_name name.now }
 {
     let (label, line) = name.split_once(':')?;
@@ -141,7 +141,7 @@ fn cut_name(name: &str) -> Option<(&str, &str)>
 }
 
 // Returns whether a text has only digits.
-fn has_only_digits(text: &str) -> bool
+pub(crate) fn has_only_digits(text: &str) -> bool
     ensures { result ≡ list_all is_ascii_digit text.now }
 {
     text.as_bytes().iter().all(|byte| byte.is_ascii_digit())

@@ -9,7 +9,6 @@ ghost use Rattle.agenda_machine.specs.Loaded.{IdleJobsOfMachineAreLeftOut, idle_
 ghost use Rattle.plan_loads.specs.Loading.{loading_of};
 
 use crate::idle::{Kept, kept_of};
-use crate::monotonic::with_monotonic;
 use agenda_sources::{Bytes, Source, Sources};
 use plan_loads::{Loading, loading_of};
 use plan_machine::{CronDaemon, Machine, MachineSource, NotPlanned};
@@ -66,9 +65,9 @@ struct LoadedSource {
     jobs: Vec<NotPlanned>,
 }
 
-/// Returns the sources of a machine as a plan reads them, and the machine with what isn't planned of them: timers that start by
-/// monotonic settings alone, as `with_monotonic` finds them, what its daemons don't load, as `loading_of` of plan_loads says, and
-/// idle jobs, as `active_crontab` of plan_runs finds them. With `idle` these are planned, and not reported.
+/// Returns the sources of a machine as a plan reads them, and the machine with what isn't planned of them: what its daemons don't
+/// load and what starts at times that files don't tell, as `loading_of` of plan_loads says, and idle jobs, as `active_crontab` of
+/// plan_runs finds them. With `idle` these are planned, and not reported.
 ///
 /// # Errors
 ///
@@ -97,7 +96,6 @@ pub fn with_loaded<T: Tree>(
         machine.cron_daemon,
         machine.sources.as_slice(),
     )?;
-    let machine = with_monotonic(alloc, machine)?;
     let machine = with_reports(machine, reports)?;
     let machine = with_reports(machine, jobs)?;
     Ok(LoadedMachine {

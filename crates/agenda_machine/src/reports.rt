@@ -4,7 +4,7 @@ ghost use Rattle.std.specs.Prelude.{◌≡◌, ◌++◌, false, IsTrue, Ok, OnOk
 ghost use Rattle.std.specs.List.{flat_map, list_any};
 ghost use Rattle.plan_streams.specs.Stream.{Puts};
 ghost use Rattle.plan_streams.specs.Writer.{Takes};
-ghost use Rattle.agenda_machine.specs.Reports.{has_line, heading, is_incomplete, is_unreadable, line_mark, no_daemon, no_zone, place_of, reports_text, skipped_line, unplanned_line};
+ghost use Rattle.agenda_machine.specs.Reports.{has_line, heading, is_incomplete, is_unreadable, line_mark, no_daemon, no_zone, place_of, reports_text, skipped_heading, skipped_line, unplanned_line};
 ghost use Rattle.plan_timers.specs.Reports.{unplanned_text, why_text};
 ghost use Rattle.plan_write.specs.Shown.{shown};
 ghost use Rattle.agenda_machine.specs.Paths.{below};
@@ -37,7 +37,8 @@ pub struct Reports<'a> {
 /// then that there is no cron daemon, and then that the zone is unknown.
 ///
 /// The lines are `agenda: skipped PATH: WHY`, `agenda: not planned: PATH: WHY` or `agenda: not planned: PATH:LINE: WHY`,
-/// `agenda: idle: PATH:LINE: WHY` for a job whose command runs nothing that has an effect,
+/// `agenda: unknown: ..` likewise for what may start at times that files don't tell, `agenda: idle: PATH:LINE: WHY` for a job
+/// whose command runs nothing that has an effect,
 /// `agenda: no cron daemon below DIR: crontabs start nothing` and
 /// `agenda: the zone of DIR is unknown: rules are read as UTC`. Control characters in a path, a directory or the name of
 /// a unit are written as `\xNN` for each of their bytes, and a backslash as `\\`.
@@ -97,11 +98,21 @@ fn put_all_skipped<S: Stream>(root: &str, skipped: &[Skipped], lines: &mut TextW
 fn put_skipped<S: Stream>(root: &str, one: &Skipped, lines: &mut TextWriter<'_, S>)
     ensures { Takes S.holds S.takes_all lines.old lines.new (skipped_line root.now one.now) }
 {
-    lines.put(b"agenda: skipped ");
+    lines.put(skipped_heading(&one.why));
     put_path_of(root, &one.path, lines);
     lines.put(b": ");
     put_why(&one.why, lines);
     lines.put(b"\n");
+}
+
+// Returns what the line of something that is skipped begins with.
+fn skipped_heading(why: &Why) -> &[u8]
+    ensures { result.now ≡ skipped_heading why.now }
+{
+    match why {
+        Why::WantedBy(_) => b"agenda: unknown: ",
+        _ => b"agenda: skipped ",
+    }
 }
 
 // Puts why something is skipped.
@@ -117,12 +128,7 @@ fn put_why<S: Stream>(why: &Why, lines: &mut TextWriter<'_, S>)
         Why::NotReadable => put_shown("not readable", lines),
         Why::NameTaken => put_shown("name taken", lines),
         Why::NotUtf8 => put_shown("a name that isn't UTF-8", lines),
-        Why::WantedBy(unit) => put_around(
-            "wanted by ",
-            unit.as_str(),
-            " alone, which the boot does not start",
-            lines,
-        ),
+        Why::WantedBy(unit) => put_around("may be started by ", unit.as_str(), "", lines),
     }
 }
 
@@ -168,6 +174,7 @@ fn heading(why: &Unplanned) -> &[u8]
 {
     match why {
         Unplanned::Idle(..) => b"agenda: idle: ",
+        why if why.is_unknown() => b"agenda: unknown: ",
         _ => b"agenda: not planned: ",
     }
 }
@@ -184,7 +191,10 @@ fn put_place_of<S: Stream>(root: &str, one: &NotPlanned, lines: &mut TextWriter<
 fn put_line_mark<S: Stream>(why: &Unplanned, lines: &mut TextWriter<'_, S>)
     ensures { Takes S.holds S.takes_all lines.old lines.new (line_mark why.now) }
 {
-    if let Unplanned::LineNotLoaded(line, _) | Unplanned::Idle(line, _) = why {
+    if let Unplanned::LineNotLoaded(line, _)
+    | Unplanned::LineUnknown(line, _)
+    | Unplanned::Idle(line, _) = why
+    {
         lines.put_both(b":", Digits::new().format(*line).as_bytes());
     }
 }
@@ -195,7 +205,8 @@ fn put_why_unplanned<S: Stream>(why: &Unplanned, lines: &mut TextWriter<'_, S>)
 {
     match why {
         Unplanned::Anacron => put_shown("anacron starts jobs by days since they ran", lines),
-        Unplanned::Monotonic => put_shown("starts by OnBootSec= or the like", lines),
+        Unplanned::StartsBy(key) => put_around("starts by ", key.as_str(), "=", lines),
+        Unplanned::AlsoStartsBy(key) => put_around("also starts by ", key.as_str(), "=", lines),
         Unplanned::AtJobs => put_shown("jobs of at", lines),
         Unplanned::UserTimers => put_shown("user timers", lines),
         Unplanned::NotLingering(user) => {
@@ -216,6 +227,7 @@ fn put_why_unplanned<S: Stream>(why: &Unplanned, lines: &mut TextWriter<'_, S>)
         ),
         Unplanned::NotLoaded(why) => put_text(why, lines),
         Unplanned::LineNotLoaded(_, why) => put_text(why, lines),
+        Unplanned::LineUnknown(_, why) => put_text(why, lines),
         Unplanned::Idle(_, why) => put_text(why, lines),
     }
 }

@@ -215,9 +215,11 @@ machine_sources = with_each (with_machine (new_app (codes "sources"))) (flag_opt
 abbrev pub machine_zone_rules : List Rule
 machine_zone_rules = option_named (codes "zone") ∷ flag_option (codes "utc") ∷ []
 
--- which jobs an answer about a machine has, and the time zone of their rules: the zone, `[--except JOB ..] [--idle]` (agenda)
+-- which jobs an answer about a machine has, and the time zone of their rules: the zone,
+-- `[--except PATTERN ..] [--only PATTERN ..] [--idle]` (agenda)
 abbrev pub choice_rules : List Rule
-choice_rules = machine_zone_rules ++ repeated_option (codes "except") ∷ flag_option (codes "idle") ∷ []
+choice_rules =
+    machine_zone_rules ++ repeated_option (codes "except") ∷ repeated_option (codes "only") ∷ flag_option (codes "idle") ∷ []
 
 -- the sizes of a plan of a machine: `[--limit N] [--planners N] [--room N]` (agenda)
 abbrev pub machine_size_rules : List Rule

@@ -10,7 +10,7 @@ use Rattle.plan_rules.specs.Job.{JobParts}
 use Rattle.plan_rules.specs.LineFaults.{LineReading, TextReading}
 use Rattle.plan_rules.specs.Timer.{has_timer, is_timer_name, settings_from, timer_job, timer_setting}
 use Rattle.plan_rules.specs.TimerOptions.{Setting}
-use Rattle.plan_rules.specs.TimerEntries.{LineStep, Idle, Empties, Has, Names, TimerState, held_after, line_in, lines_draft, no_lines, state_after}
+use Rattle.plan_rules.specs.TimerEntries.{LineStep, Idle, Empties, Has, Names, TimerState, line_in, lines_draft, no_lines, state_after}
 use Rattle.plan_check.specs.declared.context.TimerContext.{TimerContext}
 use Rattle.plan_check.specs.declared.finding.Finding.{Finding}
 use Rattle.plan_check.specs.declared.finding.Warning.TheVariants.{NeverStarts, SkippedStarts, UnknownKey, BadBoolean, BadDelay, MayStop, RangeFromEnd, SystemdRejects, UnitIgnored}
@@ -18,7 +18,7 @@ use Rattle.plan_check.specs.declared.finding.FindingKind.TheVariants.{Rejected, 
 use Rattle.plan_check.specs.Context.{options_in}
 use Rattle.plan_check.specs.Finding.{error_at, found_if, found_with, rejected_at}
 use Rattle.plan_check.specs.Known.{KnownJobs, after_job, after_other, job_findings}
-use Rattle.plan_check.specs.Settings.{is_bad_delay, is_monotonic, is_unknown_key, value_of}
+use Rattle.plan_check.specs.Settings.{is_bad_delay, is_unknown_key, value_of}
 use Rattle.plan_check.specs.TimerWarnings.{timer_warnings}
 use Rattle.plan_triggers.specs.TimerFile.{is_bad_boolean, is_bad_unit}
 use Rattle.plan_systemd.specs.EventHint.{event_hint}
@@ -94,11 +94,6 @@ lines_findings clock state [] = []
 lines_findings clock state (line ∷ more) = line_findings clock state line ++ lines_findings clock (state_after state line.1) more
 
 -- ---- a timer file
-
--- the timer has a monotonic setting and no event, so it never elapses at a time that can be told before (systemd.timer(5))
-abbrev pub is_only_monotonic : TextReading (List (ℕ × List ℕ)) → Bool
-is_only_monotonic (Ok lines) = (held_after lines == 0) && is_monotonic (settings_from false lines)
-is_only_monotonic (Err fault) = false
 
 -- the findings of the whole lines of a text: first those of the whole file, then those of its lines. Each timer makes a job,
 -- whatever else is rejected, unless the file's name is bad. A text that is too large or not UTF-8 has no lines, and no missing

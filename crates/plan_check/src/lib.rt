@@ -29,4 +29,3 @@ pub use finding::{Finding, FindingKind, Warning};
 pub use known::Known;
 pub use laws::{a_file_means_its_reading, errors_need_no_clock};
 pub use plan_cron::word_at;
-pub use timers::is_only_monotonic;

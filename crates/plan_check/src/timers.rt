@@ -8,7 +8,7 @@ ghost use Rattle.plan_rules.specs.Timer.{is_timer_name, timer_job, timer_setting
 ghost use Rattle.plan_rules.specs.TimerEntries.{draft_after, draft_of, line_in, line_shown, lines_draft, no_lines, shown_line, state_after, timer_lines};
 ghost use Rattle.plan_check.specs.Known.{after_job, after_other, job_findings};
 ghost use Rattle.plan_check.specs.TimerWarnings.{timer_text};
-ghost use Rattle.plan_check.specs.Timers.{after_timer, difference_findings, event_quote, event_warnings, has_changes, is_only_monotonic, line_findings, lines_findings, read_findings, setting_findings, step_findings, stop_in, timer_findings};
+ghost use Rattle.plan_check.specs.Timers.{after_timer, difference_findings, event_quote, event_warnings, has_changes, line_findings, lines_findings, read_findings, setting_findings, step_findings, stop_in, timer_findings};
 ghost use Rattle.plan_texts.specs.Limits.{most_bytes};
 ghost use Rattle.plan_check.specs.Warnings.{never_starts};
 
@@ -24,8 +24,8 @@ use crate::timer_warnings::{TimerText, add_timer_warnings};
 use plan_clock::Clock;
 use plan_next::next_from;
 use plan_rules::{
-    Calendar, EventZones, Events, LineCause, LineFault, Rule, TimerDraft, TimerLine, TimerOptions,
-    TimerReader, is_timer_name, text_of, timer_job,
+    Calendar, Events, LineCause, LineFault, Rule, TimerDraft, TimerLine, TimerOptions, TimerReader,
+    is_timer_name, text_of, timer_job,
 };
 use plan_systemd::{EventDifferences, event_differences, event_hint};
 use plan_texts::Text;
@@ -57,35 +57,6 @@ pub(crate) fn add_timer(
             known.add_other(alloc, name)
         }
     }
-}
-
-/// Returns whether the text of a timer has a monotonic setting, such as `OnBootSec=`, and no event (systemd.timer(5)).
-///
-/// Such a timer has the warnings `NoEvents` and `Monotonic`, and no start.
-///
-/// # Errors
-///
-/// `AllocError` if an allocation fails.
-pub fn is_only_monotonic(alloc: Global, bytes: &[u8]) -> Result<bool, AllocError>
-    ensures { IfOk result (λ is. is ≡ is_only_monotonic (timer_lines bytes.now)) }
-{
-    match text_of(bytes) {
-        Ok(text) => {
-            let lines = whole_lines(alloc, text)?;
-            are_only_monotonic(alloc, lines.as_slice())
-        }
-        Err(_) => Ok(false),
-    }
-}
-
-// Returns the same of the whole lines of a timer's text.
-fn are_only_monotonic(alloc: Global, lines: &[WholeLine]) -> Result<bool, AllocError>
-    ensures { IfOk result (λ is. is ≡ is_only_monotonic (Ok (map shown_line lines.now))) }
-{
-    let context = TimerContext::new(EventZones::utc_alone());
-    let mut found = Vec::new(alloc);
-    let (read, _) = read_lines(alloc, &mut found, &None, lines, &context)?;
-    Ok(read.reader.held() == 0 && read.standing.monotonic)
 }
 
 // Adds the findings of the whole file, whose text and lines are given, then those of its lines, and then its job.

@@ -272,6 +272,7 @@ asks_jobs goal delays = record {
   goal = goal;
   zone = None;
   except = [];
+  only = [];
   delays = delays;
   strict = false;
   idle = false;
@@ -319,11 +320,14 @@ machine_jobs_rows : RowsHold asked_in
       codes "agenda machine scripts --idle --after t",
       asks_here (record (asks_jobs (machine_goal.Scripts (codes "t")) false) { idle = true; table = table_request.Never }),
     )
-    -- the names of jobs that are left out, in the order of the arguments
+    -- the patterns of what is left out, and of what isn't, in the order of the arguments
     ∷ (codes "agenda machine --except b --except=a:1", asks_here (record upcoming_now { except = codes "b" ∷ codes "a:1" ∷ [] }))
     ∷ (
-      codes "agenda machine plan --except a",
-      asks_here (record (asks_jobs (machine_goal.Plan from_now machine_sizes view.Starts) false) { except = codes "a" ∷ [] }),
+      codes "agenda machine plan --except a --only=b --only c",
+      asks_here (record (asks_jobs (machine_goal.Plan from_now machine_sizes view.Starts) false) {
+        except = codes "a" ∷ [];
+        only = codes "b" ∷ codes "c" ∷ [];
+      }),
     )
     ∷ (codes "agenda machine plan", asks_here (asks_jobs (machine_goal.Plan from_now machine_sizes view.Starts) false))
     ∷ (

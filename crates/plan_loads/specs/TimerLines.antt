@@ -1,5 +1,5 @@
 -- What systemd 252 loads of a timer: nothing of a file that it rejects, and only the events that it accepts.
-use Rattle.std.specs.Prelude.{ℕ, Bool, true, false, not, ◌&&◌, ◌||◌, ◌==◌, if◌then◌else◌, List, [], ◌∷◌, ◌++◌, length, Option, None, Some, Ok, Err, codes, is_none, is_some, unwrap_or}
+use Rattle.std.specs.Prelude.{ℕ, ◌+◌, Bool, true, false, not, ◌&&◌, ◌||◌, ◌==◌, if◌then◌else◌, List, [], ◌∷◌, ◌++◌, length, Option, None, Some, Ok, Err, codes, is_none, is_some, unwrap_or}
 use Rattle.std.specs.List.{slice_get}
 use Rattle.std.specs.Option.{option_map}
 use Rattle.std.specs.Str.{byte, bytes_eq}
@@ -14,10 +14,12 @@ use Rattle.plan_rules.specs.LineFaults.{TextReading}
 use Rattle.plan_rules.specs.Timer.{is_reset}
 use Rattle.plan_spans.specs.Booleans.{boolean_after}
 use Rattle.plan_systemd.specs.Rejection.{rejection_of}
-use Rattle.plan_triggers.specs.TimerFile.{has_bad_header, is_elapsing_span}
+use Rattle.plan_triggers.specs.TimerFile.{has_bad_header, is_elapsing_span, line_note}
+use Rattle.plan_texts.specs.Lines.{lines}
 use Rattle.plan_texts.specs.WholeLines.{trimmed, whole_lines}
 use Rattle.plan_timers.specs.declared.reports.NotPlanned.{NotPlanned}
-use Rattle.plan_timers.specs.declared.reports.Unplanned.TheVariants.{LineNotLoaded, NotLoaded}
+use Rattle.plan_timers.specs.declared.reports.Unplanned.{Unplanned}
+use Rattle.plan_timers.specs.declared.reports.Unplanned.TheVariants.{AlsoStartsBy, LineNotLoaded, LineUnknown, NotLoaded, StartsBy}
 use Rattle.plan_units.specs.Settings.{section_name, setting_of}
 
 -- ---- one event
@@ -48,11 +50,14 @@ event_report parts number value (Some hint) = line_of parts number (event_why va
 
 -- ---- whether it elapses
 
--- what says that a timer elapses: an event or a time span, since the last reset; and the changes of the clock and of the zone
--- (systemd.timer(5))
+-- what says that a timer elapses: an event, since the last reset; and the changes of the clock and of the zone (systemd.timer(5))
 abbrev pub elapses_after : Bool → (setting : List ℕ × List ℕ) → (hint : Option (List ℕ)) → Bool
-elapses_after before setting hint =
-    if is_reset setting then false else before || ((is_event setting && is_none hint) || is_elapsing_span setting)
+elapses_after before setting hint = if is_reset setting then false else before || (is_event setting && is_none hint)
+
+-- the key of the first monotonic setting with a time span, since the last reset (systemd.timer(5))
+abbrev pub span_after : Option (List ℕ) → (setting : List ℕ × List ℕ) → Option (List ℕ)
+span_after before setting =
+    if is_reset setting then None else (if is_none before && is_elapsing_span setting then Some setting.0 else before)
 
 abbrev pub switches_after : Switches → (setting : List ℕ × List ℕ) → (hint : Option (List ℕ)) → Switches
 switches_after before setting hint = record {
@@ -64,22 +69,44 @@ switches_after before setting hint = record {
 abbrev pub no_switches : Switches
 no_switches = record { elapses = false; on_clock = false; on_zone = false }
 
-abbrev pub is_triggered : Switches → Bool
-is_triggered switches = switches.elapses || (switches.on_clock || switches.on_zone)
+abbrev pub is_triggered : Switches → (span : Option (List ℕ)) → Bool
+is_triggered switches span = switches.elapses || (is_some span || (switches.on_clock || switches.on_zone))
+
+-- ---- what else starts it
+
+-- a timer starts by a monotonic setting, such as `OnBootSec=`, alone, or beside its events
+abbrev pub span_why : (has_events : Bool) → (key : List ℕ) → Unplanned
+span_why true key = AlsoStartsBy key
+span_why false key = StartsBy key
+
+abbrev pub span_report : (path : List ℕ) → (has_events : Bool) → Option (List ℕ) → List NotPlanned
+span_report path has_events None = []
+span_report path has_events (Some key) = record { path = path; why = span_why has_events key } ∷ []
+
+-- a timer also starts when the clock is set, or the time zone
+abbrev pub switch_report : (path : List ℕ) → (is_on : Bool) → (key : List ℕ) → List NotPlanned
+switch_report path is_on key = if is_on then record { path = path; why = AlsoStartsBy key } ∷ [] else []
+
+-- all of these; when they start a timer can't be told from its files
+abbrev pub other_triggers : (path : List ℕ) → Switches → (span : Option (List ℕ)) → List NotPlanned
+other_triggers path switches span =
+    span_report path switches.elapses span ++ switch_report path switches.on_clock (codes "OnClockChange")
+    ++ switch_report path switches.on_zone (codes "OnTimezoneChange")
 
 -- ---- all lines
 
--- what is known after some lines: whether the next one is in a `[Timer]` section, whether there was one, what triggers the timer, the
--- text that is loaded, and the lines that aren't
+-- what is known after some lines: whether the next one is in a `[Timer]` section, whether there was one, what triggers the timer, its
+-- first monotonic setting, the text that is loaded, and the lines that aren't
 pub record Scan : Type 0 where
   pub inside : Bool
   pub found : Bool
   pub switches : Switches
+  pub span : Option (List ℕ)
   pub text : List ℕ
   pub reports : List NotPlanned
 
 abbrev pub no_scan : Scan
-no_scan = record { inside = false; found = false; switches = no_switches; text = []; reports = [] }
+no_scan = record { inside = false; found = false; switches = no_switches; span = None; text = []; reports = [] }
 
 -- a line that is loaded
 abbrev pub with_text : Scan → List ℕ → Scan
@@ -94,6 +121,7 @@ after_setting parts scan line setting =
     let hint = event_hint setting in
     with_text_unless (is_some hint) (record scan {
       switches = switches_after scan.switches setting hint;
+      span = span_after scan.span setting;
       reports = scan.reports ++ event_report parts line.0 setting.1 hint;
     }) line.1
 
@@ -128,10 +156,12 @@ whole_report path why = record { path = path; why = NotLoaded why }
 -- without a `[Timer]` section the timer has an error; without an event that is rejected the text is loaded as it is
 abbrev pub loading_by : (path text : List ℕ) → Scan → KnownLoading
 loading_by path text scan =
-    if scan.found && not (is_triggered scan.switches)
+    if scan.found && not (is_triggered scan.switches scan.span)
     then record { text = None; reports = scan.reports ++ whole_report path no_trigger ∷ [] } else
-    if length scan.reports == 0 then record { text = Some text; reports = [] } else
-    record { text = Some scan.text; reports = scan.reports }
+    record {
+      text = Some (if length scan.reports == 0 then text else scan.text);
+      reports = scan.reports ++ other_triggers path scan.switches scan.span;
+    }
 
 abbrev pub trimmed_lines : List (ℕ × List ℕ) → List (ℕ × List ℕ)
 trimmed_lines [] = []
@@ -143,7 +173,27 @@ lines_loading parts path text lines =
     then record { text = None; reports = whole_report path bad_header ∷ [] }
     else loading_by path text (scan_from parts no_scan lines)
 
+-- ---- lines that systemd reads otherwise
+
+-- a line of the text of a timer that systemd may read otherwise, where it comes from
+abbrev pub line_otherwise : Parts → (number : ℕ) → (note : Option (List ℕ)) → List NotPlanned
+line_otherwise parts number None = []
+line_otherwise parts number (Some note) =
+    let origin = origin_of (texts_of (files_of parts)) number in
+    record { path = path_at (files_of parts) origin.part; why = LineUnknown origin.line (codes "systemd may read it otherwise") } ∷ []
+
+-- all such lines; the first of these has this number
+abbrev pub read_otherwise : Parts → (number : ℕ) → List (List ℕ) → List NotPlanned
+read_otherwise parts number [] = []
+read_otherwise parts number (line ∷ more) =
+    line_otherwise parts number (line_note line) ++ read_otherwise parts (number + 1) more
+
+-- what is loaded, with more that isn't planned
+abbrev pub with_more : KnownLoading → List NotPlanned → KnownLoading
+with_more loading more = record { text = loading.text; reports = loading.reports ++ more }
+
 -- a text that is too large or isn't UTF-8 makes no job anyway
 abbrev pub timer_loading : Parts → (path text : List ℕ) → TextReading (List ℕ) → KnownLoading
-timer_loading parts path text (Ok read) = lines_loading parts path text (whole_lines read)
+timer_loading parts path text (Ok read) =
+    with_more (lines_loading parts path text (whole_lines read)) (read_otherwise parts 1 (lines read))
 timer_loading parts path text (Err fault) = record { text = Some text; reports = [] }

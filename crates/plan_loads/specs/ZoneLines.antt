@@ -10,7 +10,7 @@ use Rattle.plan_rules.specs.LineFaults.{LineReading, TextReading}
 use Rattle.plan_rules.specs.Timer.{setting_of}
 use Rattle.plan_texts.specs.Lines.{lines, written}
 use Rattle.plan_timers.specs.declared.reports.NotPlanned.{NotPlanned}
-use Rattle.plan_timers.specs.declared.reports.Unplanned.TheVariants.{LineNotLoaded}
+use Rattle.plan_timers.specs.declared.reports.Unplanned.TheVariants.{LineUnknown}
 
 -- ---- the setting
 
@@ -46,7 +46,7 @@ has_job (Err cause) = false
 abbrev pub jobs_from : Kind → (path : List ℕ) → (number : ℕ) → List (List ℕ) → List NotPlanned
 jobs_from kind path number [] = []
 jobs_from kind path number (line ∷ more) =
-    (if has_job (line_reading [] kind number line) then record { path = path; why = LineNotLoaded number zone_why } ∷ [] else [])
+    (if has_job (line_reading [] kind number line) then record { path = path; why = LineUnknown number zone_why } ∷ [] else [])
     ++ jobs_from kind path (number + 1) more
 
 -- the lines up to the first that sets the zone, and what is below it

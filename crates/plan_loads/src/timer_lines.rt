@@ -2,12 +2,12 @@
 
 ghost use Rattle.std.specs.Prelude.{◌≡◌, ℕ, List, Option, None, ◌++◌, ◌∷◌, [], ◌≤◌, IfOk, OnOk, is_some, length, map};
 ghost use Rattle.std.specs.Option.{option_map};
-ghost use Rattle.plan_loads.specs.TimerLines.{after_line, after_plain, after_section, after_setting, elapses_after, event_hint, event_report, event_why, is_event, is_triggered, line_of, lines_loading, loading_by, no_scan, no_switches, path_at, scan_from, switches_after, timer_loading, trimmed_lines, whole_report, with_text, with_text_unless};
+ghost use Rattle.plan_loads.specs.TimerLines.{after_line, after_plain, after_section, after_setting, elapses_after, event_hint, event_report, event_why, is_event, is_triggered, line_of, line_otherwise, lines_loading, loading_by, no_scan, no_switches, other_triggers, path_at, read_otherwise, scan_from, span_after, span_why, switch_report, switches_after, timer_loading, trimmed_lines, whole_report, with_text, with_text_unless};
 ghost use Rattle.plan_parts.specs.Parts.{files_of};
 ghost use Rattle.plan_rules.specs.FileText.{text_reading};
 ghost use Rattle.plan_texts.specs.Limits.{most_bytes};
 ghost use Rattle.plan_texts.specs.WholeLines.{trimmed, whole_text};
-ghost use Rattle.plan_triggers.specs.TimerFile.{has_bad_header};
+ghost use Rattle.plan_triggers.specs.TimerFile.{has_bad_header, line_note};
 ghost use Rattle.plan_units.specs.Settings.{section_name, setting_of};
 
 use crate::loading::{Loading, all_loaded};
@@ -16,9 +16,10 @@ use plan_rules::{is_reset, text_of};
 use plan_spans::boolean_after;
 use plan_systemd::rejection;
 use plan_texts::Text;
+use plan_texts::lines::lines;
 use plan_texts::whole_lines::{WholeLine, trimmed, whole_lines};
 use plan_timers::{NotPlanned, Unplanned, copy_of};
-use plan_triggers::{has_bad_header, is_elapsing_span};
+use plan_triggers::{has_bad_header, is_elapsing_span, line_note};
 use plan_units::{section_name, setting_of};
 use std::alloc::{AllocError, Global};
 use std::marker::Model;
@@ -26,7 +27,7 @@ use std::marker::Model;
 // What says that a timer elapses.
 #[derive(Clone, Copy, Debug, PartialEq, Eq)]
 pub(crate) struct Switches {
-    // An event that systemd accepts, or a time span, since the last reset.
+    // An event that systemd accepts, since the last reset.
     pub(crate) elapses: bool,
     // The changes of the clock.
     pub(crate) on_clock: bool,
@@ -43,6 +44,8 @@ struct Scan {
     found: bool,
     // What triggers the timer.
     switches: Switches,
+    // The key of the first monotonic setting with a time span since the last reset.
+    span: Option<Text>,
     // The text that is loaded.
     text: Vec<u8>,
     // The lines that aren't.
@@ -58,6 +61,7 @@ impl Model for Scan {
       inside = scan.inside;
       found = scan.found;
       switches = scan.switches;
+      span = scan.span;
       text = scan.text.items;
       reports = scan.reports.items;
     } };
@@ -75,8 +79,51 @@ pub(crate) fn timer_loading(
     let Ok(text) = text_of(bytes) else {
         return all_loaded(alloc, bytes);
     };
+    let every = lines(alloc, text)?;
+    let mut otherwise = read_otherwise(alloc, parts, every.as_slice())?;
     let lines = whole_lines(alloc, text)?;
-    lines_loading(alloc, parts, path, bytes, lines.as_slice())
+    let Loading { text, mut reports } = lines_loading(alloc, parts, path, bytes, lines.as_slice())?;
+    reports.append(&mut otherwise)?;
+    Ok(Loading { text, reports })
+}
+
+// Returns the lines of a timer that systemd may read otherwise: with a carriage return, a NUL byte or a byte order mark.
+fn read_otherwise(
+    alloc: Global,
+    parts: &Parts,
+    lines: &[&str],
+) -> Result<Vec<NotPlanned>, AllocError>
+    requires { length lines.now ≤ most_bytes }
+    ensures { IfOk result (λ found. found.items ≡ read_otherwise parts.now 1 (map (λ line. line.now) lines.now)) }
+{
+    let mut found = Vec::new(alloc);
+    let mut number = 1;
+    for line in lines {
+        add_otherwise(alloc, &mut found, parts, number, line)?;
+        number = number.saturating_add(1);
+    }
+    Ok(found)
+}
+
+// Adds a line of a timer, if systemd may read it otherwise.
+fn add_otherwise(
+    alloc: Global,
+    found: &mut Vec<NotPlanned>,
+    parts: &Parts,
+    number: u32,
+    line: &str,
+) -> Result<(), AllocError>
+    ensures { OnOk result (found.new.items ≡ found.old.items ++ line_otherwise parts.now number (line_note line.now)) }
+{
+    if line_note(line).is_some() {
+        let origin = parts.origin(number);
+        let why = copy_of(alloc, "systemd may read it otherwise")?;
+        found.push(NotPlanned {
+            path: path_at(alloc, parts, origin.part)?,
+            why: Unplanned::LineUnknown(origin.line, why),
+        })?;
+    }
+    Ok(())
 }
 
 // Returns what systemd loads of a timer with these lines.
@@ -112,21 +159,93 @@ fn loading_by(alloc: Global, path: &str, bytes: &[u8], scan: Scan) -> Result<Loa
     let Scan {
         found,
         switches,
+        span,
         text,
         reports,
         ..
     } = scan;
-    if found && !is_triggered(switches) {
+    if found && !is_triggered(switches, &span) {
         let why = "systemd 252 rejects this timer: it has no valid trigger";
         return nothing_with(alloc, path, why, reports);
     }
-    if reports.is_empty() {
-        return all_loaded(alloc, bytes);
-    }
+    let mut others = other_triggers(alloc, path, switches, &span)?;
+    let text = if reports.is_empty() {
+        Vec::from_slice(alloc, bytes)?
+    } else {
+        text
+    };
+    let mut reports = reports;
+    reports.append(&mut others)?;
     Ok(Loading {
         text: Some(text),
         reports,
     })
+}
+
+// Returns what else starts a timer, whose first file has this path: a time since the boot or the like, the changes of the clock,
+// and those of the time zone.
+fn other_triggers(
+    alloc: Global,
+    path: &str,
+    switches: Switches,
+    span: &Option<Text>,
+) -> Result<Vec<NotPlanned>, AllocError>
+    ensures { IfOk result (λ reports. reports.items ≡ other_triggers path.now switches span.now) }
+{
+    let mut reports = Vec::new(alloc);
+    if let Some(key) = span {
+        let why = span_why(alloc, switches.elapses, key.as_str())?;
+        reports.push(NotPlanned {
+            path: copy_of(alloc, path)?,
+            why,
+        })?;
+    }
+    add_switch(
+        alloc,
+        &mut reports,
+        path,
+        switches.on_clock,
+        "OnClockChange",
+    )?;
+    add_switch(
+        alloc,
+        &mut reports,
+        path,
+        switches.on_zone,
+        "OnTimezoneChange",
+    )?;
+    Ok(reports)
+}
+
+// Returns that a timer, which may have events, starts by the monotonic setting with this key.
+fn span_why(alloc: Global, has_events: bool, key: &str) -> Result<Unplanned, AllocError>
+    ensures { IfOk result (λ why. why ≡ span_why has_events key.now) }
+{
+    let key = copy_of(alloc, key)?;
+    if has_events {
+        Ok(Unplanned::AlsoStartsBy(key))
+    } else {
+        Ok(Unplanned::StartsBy(key))
+    }
+}
+
+// Adds that a timer also starts by the setting with this key, if that is on.
+fn add_switch(
+    alloc: Global,
+    reports: &mut Vec<NotPlanned>,
+    path: &str,
+    is_on: bool,
+    key: &str,
+) -> Result<(), AllocError>
+    ensures { OnOk result (reports.new.items ≡ reports.old.items ++ switch_report path.now is_on key.now) }
+{
+    if is_on {
+        reports.push(NotPlanned {
+            path: copy_of(alloc, path)?,
+            why: Unplanned::AlsoStartsBy(copy_of(alloc, key)?),
+        })?;
+    }
+    Ok(())
 }
 
 // Returns that nothing is loaded of a file, with a report of it after others.
@@ -150,11 +269,11 @@ fn nothing_with(
     })
 }
 
-// Returns whether a timer is triggered.
-fn is_triggered(switches: Switches) -> bool
-    ensures { result ≡ is_triggered switches }
+// Returns whether a timer is triggered, which may have a monotonic setting.
+fn is_triggered(switches: Switches, span: &Option<Text>) -> bool
+    ensures { result ≡ is_triggered switches span.now }
 {
-    switches.elapses || switches.on_clock || switches.on_zone
+    switches.elapses || span.is_some() || switches.on_clock || switches.on_zone
 }
 
 // Returns what is known after all lines of a timer.
@@ -180,6 +299,7 @@ fn no_scan(alloc: Global) -> Scan
             on_clock: false,
             on_zone: false,
         },
+        span: None,
         text: Vec::new(alloc),
         reports: Vec::new(alloc),
     }
@@ -244,6 +364,7 @@ fn after_setting(
     let is_left_out = hint.is_some();
     let mut after = scan;
     after.switches = switches_after(after.switches, key, value, is_left_out);
+    after.span = span_after(alloc, after.span, key, value)?;
     let mut more = event_report(alloc, parts, line.number, value, hint)?;
     after.reports.append(&mut more)?;
     with_text_unless(is_left_out, after, line.text.as_str())
@@ -289,7 +410,25 @@ fn elapses_after(before: bool, key: &str, value: &str, is_rejected: bool) -> boo
     if is_reset(key, value) {
         return false;
     }
-    before || (is_event(key, value) && !is_rejected) || is_elapsing_span(key, value)
+    before || (is_event(key, value) && !is_rejected)
+}
+
+// Returns the key of the first monotonic setting after one more setting, by that before it.
+fn span_after(
+    alloc: Global,
+    before: Option<Text>,
+    key: &str,
+    value: &str,
+) -> Result<Option<Text>, AllocError>
+    ensures { IfOk result (λ after. after ≡ span_after before (key.now, value.now)) }
+{
+    if is_reset(key, value) {
+        return Ok(None);
+    }
+    if before.is_none() && is_elapsing_span(key, value) {
+        return Ok(Some(copy_of(alloc, key)?));
+    }
+    Ok(before)
 }
 
 // Returns whether a setting has an event.

@@ -10,7 +10,7 @@ ghost use Rattle.plan_rules.specs.FileText.{text_reading};
 ghost use Rattle.plan_rules.specs.LineFaults.{GivesLine};
 ghost use Rattle.plan_texts.specs.Lines.{written};
 ghost use Rattle.plan_texts.specs.Limits.{most_bytes};
-ghost use Rattle.plan_timers.specs.declared.reports.Unplanned.TheVariants.{LineNotLoaded};
+ghost use Rattle.plan_timers.specs.declared.reports.Unplanned.TheVariants.{LineUnknown};
 
 use crate::loading::{Loading, all_loaded};
 use plan_rules::{Kind, crontab_entry, setting_of, text_of};
@@ -128,7 +128,7 @@ fn add_line(
     line: &str,
 ) -> Result<(), AllocError>
     ensures { OnOk result (jobs.new.items ≡ jobs.old.items ++ (if has_job (line_reading [] kind number line.now)
-        then record { path = path.now; why = LineNotLoaded number zone_why } ∷ [] else [])) }
+        then record { path = path.now; why = LineUnknown number zone_why } ∷ [] else [])) }
 {
     if has_job(alloc, kind, number, line)? {
         jobs.push(not_planned(alloc, path, number)?)?;
@@ -148,11 +148,11 @@ fn has_job(alloc: Global, kind: Kind, number: u32, line: &str) -> Result<bool, A
 
 // Returns that a line isn't planned.
 fn not_planned(alloc: Global, path: &str, number: u32) -> Result<NotPlanned, AllocError>
-    ensures { IfOk result (λ one. one ≡ record { path = path.now; why = LineNotLoaded number zone_why }) }
+    ensures { IfOk result (λ one. one ≡ record { path = path.now; why = LineUnknown number zone_why }) }
 {
     let why = copy_of(alloc, "after CRON_TZ=, which agenda does not read")?;
     Ok(NotPlanned {
         path: copy_of(alloc, path)?,
-        why: Unplanned::LineNotLoaded(number, why),
+        why: Unplanned::LineUnknown(number, why),
     })
 }

@@ -1,7 +1,7 @@
 //! What is skipped on a machine, what starts jobs there but isn't planned, and why.
 
 ghost use Rattle.std.specs.Prelude.{◌≡◌, ◌++◌, IfOk};
-ghost use Rattle.plan_timers.specs.Reports.{unplanned_text, why_text};
+ghost use Rattle.plan_timers.specs.Reports.{is_unknown, is_unknown_skip, unplanned_text, why_text};
 
 use plan_texts::Text;
 use std::alloc::{AllocError, Global};
@@ -25,7 +25,7 @@ pub enum Why {
     NameTaken,
     /// The directory has a name that isn't UTF-8. Its other names are read.
     NotUtf8,
-    /// The timer is wanted by this unit alone, which the boot does not start.
+    /// The timer is wanted by this unit alone, which the boot does not start. Something else may start the unit.
     WantedBy(Text),
 }
 
@@ -47,13 +47,19 @@ impl Why {
             Why::NotReadable => copy_of(alloc, "not readable"),
             Why::NameTaken => copy_of(alloc, "name taken"),
             Why::NotUtf8 => copy_of(alloc, "a name that isn't UTF-8"),
-            Why::WantedBy(unit) => around(
-                alloc,
-                "wanted by ",
-                unit.as_str(),
-                " alone, which the boot does not start",
-            ),
+            Why::WantedBy(unit) => around(alloc, "may be started by ", unit.as_str(), ""),
         }
+    }
+
+    /// Returns whether what is skipped may start jobs at times that can't be told from the files. The rest surely starts nothing,
+    /// by a rule of cron or systemd.
+    pub fn is_unknown(&self) -> bool
+        ensures { result ≡ is_unknown_skip self.now }
+    {
+        matches!(
+            self,
+            Why::Escape | Why::NotReadable | Why::NameTaken | Why::NotUtf8 | Why::WantedBy(_)
+        )
     }
 }
 
@@ -71,8 +77,10 @@ pub struct Skipped {
 pub enum Unplanned {
     /// It is the table of anacron.
     Anacron,
-    /// The timer has a monotonic setting and no calendar event.
-    Monotonic,
+    /// The timer starts by the setting with this key alone, such as `OnBootSec`, at times that no file tells.
+    StartsBy(Text),
+    /// The timer also starts by the setting with this key. Its events, if it has any, are planned.
+    AlsoStartsBy(Text),
     /// The directory has jobs of at.
     AtJobs,
     /// The directory has timers of a user.
@@ -89,6 +97,8 @@ pub enum Unplanned {
     NotLoaded(Text),
     /// The same for what has this line, or for the whole file because of this line.
     LineNotLoaded(u32, Text),
+    /// What has this line may start, and when isn't known, for this reason.
+    LineUnknown(u32, Text),
     /// The command of this line runs nothing that has an effect, for this reason.
     Idle(u32, Text),
 }
@@ -104,7 +114,8 @@ impl Unplanned {
     {
         match self {
             Unplanned::Anacron => copy_of(alloc, "anacron starts jobs by days since they ran"),
-            Unplanned::Monotonic => copy_of(alloc, "starts by OnBootSec= or the like"),
+            Unplanned::StartsBy(key) => around(alloc, "starts by ", key.as_str(), "="),
+            Unplanned::AlsoStartsBy(key) => around(alloc, "also starts by ", key.as_str(), "="),
             Unplanned::AtJobs => copy_of(alloc, "jobs of at"),
             Unplanned::UserTimers => copy_of(alloc, "user timers"),
             Unplanned::NotLingering(user) => {
@@ -119,8 +130,25 @@ impl Unplanned {
             }
             Unplanned::NotLoaded(why) => copy_of(alloc, why.as_str()),
             Unplanned::LineNotLoaded(_, why) => copy_of(alloc, why.as_str()),
+            Unplanned::LineUnknown(_, why) => copy_of(alloc, why.as_str()),
             Unplanned::Idle(_, why) => copy_of(alloc, why.as_str()),
         }
+    }
+
+    /// Returns whether it may start, and when can't be told from the files. The rest surely starts nothing, by a rule of cron,
+    /// systemd or sh.
+    pub fn is_unknown(&self) -> bool
+        ensures { result ≡ is_unknown self.now }
+    {
+        matches!(
+            self,
+            Unplanned::Anacron
+                | Unplanned::StartsBy(_)
+                | Unplanned::AlsoStartsBy(_)
+                | Unplanned::AtJobs
+                | Unplanned::UserTimers
+                | Unplanned::LineUnknown(..)
+        )
     }
 }
 

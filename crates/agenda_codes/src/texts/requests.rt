@@ -90,6 +90,16 @@ line names no file, the disk is full or standard output is closed. Free space on
 the disk, or write to another file.
 ";
 
+pub(crate) const EMPTY_SPAN: &str = "\
+The span of 'clear' has no second: --until isn't after --since. Nothing can
+start in such a span, so the answer would say nothing. Give a later end.
+
+Before:
+    agenda machine clear --since 2026-12-01 --until 2026-12-01
+After:
+    agenda machine clear --since 2026-12-01 --until 2026-12-02
+";
+
 pub(crate) const NO_MEMORY: &str = "\
 The program is out of memory, or a thread of a planner couldn't be started.
 Choose a shorter span, fewer files, fewer planners or a shorter script, or allow
@@ -121,6 +131,17 @@ After:
 pub(crate) const NOT_SETTLED: &str = "\
 The messages of the planners didn't add up at the end, so nothing is printed. It
 is proved that this never happens. If it does, report it as a bug.
+";
+
+pub(crate) const NOTHING_NAMED: &str = "\
+No job, timer or crontab has such a name. The names of jobs are those that
+'agenda machine plan' prints. That of a crontab is what its jobs have before the
+colon. '*' stands for any bytes and '?' for one byte: quote them.
+
+Before:
+    agenda machine clear --except bakcup.timer
+After:
+    agenda machine clear --except 'backup*'
 ";
 
 pub(crate) const OUT_OF_YEARS: &str = "\

@@ -62,6 +62,9 @@ pub(crate) const DEVICE: &str =
 pub(crate) const EITHER_DAY: &str =
     "Both day fields are restricted, so the job starts on each day that either of them matches.";
 
+pub(crate) const EMPTY_SPAN: &str =
+    "The span of 'clear' has no second: --until isn't after --since.";
+
 pub(crate) const FRACTION: &str = "The second of a calendar event has a fraction.";
 
 pub(crate) const FULL: &str = "There are more than 1,000 jobs.";
@@ -85,6 +88,8 @@ pub(crate) const NOT_SETTLED: &str =
     "The messages of the planners didn't add up at the end, so nothing is printed.";
 
 pub(crate) const NOT_UTF8: &str = "The bytes of the file aren't UTF-8.";
+
+pub(crate) const NOTHING_NAMED: &str = "No job, timer or crontab has such a name.";
 
 pub(crate) const NO_COMMAND: &str = "The line has a rule but no command.";
 

@@ -29,7 +29,10 @@ const UTC: CommandOption<'static> = CommandOption::Flag("utc", texts::UTC);
 const AFTER: CommandOption<'static> = CommandOption::Preset("after", "TIME", "now", texts::AFTER);
 
 // The jobs that are left out of the answer.
-const EXCEPT: CommandOption<'static> = CommandOption::Repeated("except", "JOB", texts::EXCEPT);
+const EXCEPT: CommandOption<'static> = CommandOption::Repeated("except", "PATTERN", texts::EXCEPT);
+
+// The jobs of which others are left out.
+const ONLY: CommandOption<'static> = CommandOption::Repeated("only", "PATTERN", texts::ONLY);
 
 // Whether jobs that do nothing are in the answer.
 const IDLE: CommandOption<'static> = CommandOption::Flag("idle", texts::IDLE);
@@ -133,6 +136,7 @@ pub(super) fn machine_upcoming_command<'a>(alloc: Global) -> Result<Command<'a>,
             ZONE,
             UTC,
             EXCEPT,
+            ONLY,
             IDLE,
             CommandOption::Flag("delays", help::DELAYS),
             STRICT,
@@ -162,6 +166,7 @@ pub(super) fn machine_plan_command<'a>(alloc: Global) -> Result<Command<'a>, All
             ZONE,
             UTC,
             EXCEPT,
+            ONLY,
             IDLE,
             CommandOption::Flag("delays", help::DELAYS),
             STRICT,
@@ -195,6 +200,7 @@ pub(super) fn machine_quiet_command<'a>(alloc: Global) -> Result<Command<'a>, Al
             ZONE,
             UTC,
             EXCEPT,
+            ONLY,
             IDLE,
             CommandOption::Flag("nominal", help::NOMINAL),
             STRICT,
@@ -224,7 +230,7 @@ pub(super) fn machine_downtime_command<'a>(alloc: Global) -> Result<Command<'a>,
         alloc,
         command,
         &[
-            ZONE, UTC, EXCEPT, IDLE, STRICT, TABLE, TEXT, JSON, LIMIT, PLANNERS, ROOM,
+            ZONE, UTC, EXCEPT, ONLY, IDLE, STRICT, TABLE, TEXT, JSON, LIMIT, PLANNERS, ROOM,
         ],
     )
 }
@@ -248,6 +254,7 @@ pub(super) fn machine_clear_command<'a>(alloc: Global) -> Result<Command<'a>, Al
             ZONE,
             UTC,
             EXCEPT,
+            ONLY,
             IDLE,
             CommandOption::Flag("nominal", help::NOMINAL),
             STRICT,
@@ -278,6 +285,7 @@ pub(super) fn machine_changes_command<'a>(alloc: Global) -> Result<Command<'a>, 
             ZONE,
             UTC,
             EXCEPT,
+            ONLY,
             IDLE,
             STRICT,
             TABLE,
@@ -305,7 +313,9 @@ pub(super) fn machine_week_command<'a>(alloc: Global) -> Result<Command<'a>, All
     with_arguments(
         alloc,
         command,
-        &[ZONE, UTC, EXCEPT, IDLE, STRICT, JSON, LIMIT, PLANNERS, ROOM],
+        &[
+            ZONE, UTC, EXCEPT, ONLY, IDLE, STRICT, JSON, LIMIT, PLANNERS, ROOM,
+        ],
     )
 }
 
@@ -323,7 +333,7 @@ pub(super) fn machine_scripts_command<'a>(alloc: Global) -> Result<Command<'a>, 
     with_arguments(
         alloc,
         command,
-        &[ROOT, ALL, AFTER, ZONE, UTC, EXCEPT, IDLE, STRICT],
+        &[ROOT, ALL, AFTER, ZONE, UTC, EXCEPT, ONLY, IDLE, STRICT],
     )
 }
 
@@ -369,7 +379,7 @@ pub(super) fn machine_describe_command<'a>(alloc: Global) -> Result<Command<'a>,
         alloc,
         command,
         &[
-            ROOT, ALL, ZONE, UTC, EXCEPT, IDLE, STRICT, TABLE, TEXT, JSON,
+            ROOT, ALL, ZONE, UTC, EXCEPT, ONLY, IDLE, STRICT, TABLE, TEXT, JSON,
         ],
     )?;
     with_argument(command, argument(alloc, "rule", "RULE", texts::RULE))

@@ -31,7 +31,7 @@ returns-in_err-remark g c =
     goes _ (goes _ (rw c.needs_files-needed.ensures at c.in_ok-files.ensures)
     (settled_parts Answers c.args.output.goal.now (Ok c.args.kept) made.result c.in_ok-made.made
     (rw files at made.ensures.answer) c.in_ok-made.ensures))
-    (failed _ (Run NoMemory) refl c.from_residual-in_err-remark.ensures.1)
+    (goes _ refl (failed _ (Run NoMemory) refl c.from_residual-in_err-remark.ensures.1))
 
 pub returns : goal.returns
 returns g c =
@@ -43,17 +43,16 @@ returns g c =
     goes _ (goes _ (rw c.needs_files-needed.ensures at c.in_ok-files.ensures)
     (settled_parts Answers c.args.output.goal.now (Ok c.args.kept) made.result c.in_ok-made.made
     (rw files at made.ensures.answer) c.in_ok-made.ensures))
-    (goes _ (remark_same c.args.output.goal.now _ _ _ _ _ _ _ c.in_ok-remark.ensures
-    (rw (← c.parted-answer.ensures) c.is_ok.ensures.value)
-    (rw c.parted-answer.ensures said)
-    (rw (c.status_of-status.ensures, c.are_warnings.ensures, c.as_slice.ensures.value) refl))
-    (rw (
-      c.new.ensures,
-      c.in_words.ensures,
-      c.found_status.ensures,
-      c.parted-answer.ensures,
+    (goes c.jobs_status-status.result (rw (
+      c.jobs_status-status.ensures,
       c.status_of-status.ensures,
       c.are_warnings.ensures,
       c.as_slice.ensures.value,
+      c.parted-answer.ensures,
       found,
-    ) refl))
+    ) refl)
+    (goes _ (remark_same c.args.output.goal.now _ _ _ _ _ _ _ _ c.in_ok-remark.ensures
+    (rw (← c.parted-answer.ensures) c.is_ok.ensures.value)
+    (rw c.parted-answer.ensures said)
+    refl)
+    (rw (c.new.ensures, c.in_words.ensures, c.parted-answer.ensures) refl)))

@@ -31,17 +31,25 @@ returns-in_err-span-in-Plan-clause-read g c =
     goes c.in_ok-now.now c.in_ok-now.ensures.value (rw c.in-Plan.is
     (failed _ _ c.in_err-span-in-Plan.ensures c.from_residual-in_err-span-in-Plan.ensures.1))
 
+pub returns-in_err-span-in-Plan-2-clause-read : goal.returns-in_err-span-in-Plan-2-clause-read
+returns-in_err-span-in-Plan-2-clause-read g c =
+    goes c.in_ok-now.now c.in_ok-now.ensures.value (rw c.in-Plan.is
+    (goes c.in_ok-span-in-Plan.span c.in_ok-span-in-Plan.ensures
+    (failed _ _ c.in_err-span-in-Plan-2.ensures c.from_residual-in_err-span-in-Plan-2.ensures.1)))
+
 pub returns-in_err-sizes-in-Plan-clause-read : goal.returns-in_err-sizes-in-Plan-clause-read
 returns-in_err-sizes-in-Plan-clause-read g c =
     goes c.in_ok-now.now c.in_ok-now.ensures.value (rw c.in-Plan.is
     (goes c.in_ok-span-in-Plan.span c.in_ok-span-in-Plan.ensures
-    (failed _ _ c.in_err-sizes-in-Plan.ensures c.from_residual-in_err-sizes-in-Plan.ensures.1)))
+    (goes c.in_ok-span-in-Plan-2.span c.in_ok-span-in-Plan-2.ensures
+    (failed _ _ c.in_err-sizes-in-Plan.ensures c.from_residual-in_err-sizes-in-Plan.ensures.1))))
 
 pub returns-in_ok-sizes-in-Plan-clause-read : goal.returns-in_ok-sizes-in-Plan-clause-read
 returns-in_ok-sizes-in-Plan-clause-read g c =
     goes c.in_ok-now.now c.in_ok-now.ensures.value (rw c.in-Plan.is
     (goes c.in_ok-span-in-Plan.span c.in_ok-span-in-Plan.ensures
-    (goes c.in_ok-sizes-in-Plan.sizes c.in_ok-sizes-in-Plan.ensures refl)))
+    (goes c.in_ok-span-in-Plan-2.span c.in_ok-span-in-Plan-2.ensures
+    (goes c.in_ok-sizes-in-Plan.sizes c.in_ok-sizes-in-Plan.ensures refl))))
 
 pub returns-in_err-span-in-Quiet-clause-read : goal.returns-in_err-span-in-Quiet-clause-read
 returns-in_err-span-in-Quiet-clause-read g c =

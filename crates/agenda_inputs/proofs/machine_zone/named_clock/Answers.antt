@@ -15,12 +15,5 @@ returns-in_default-clause-read g c =
     (subst (λ name. looked_up (g.F.Files.held c.args.files.now) name (Ok c.in_ok-zone.zone)) c.as_str.ensures c.in_ok-zone.ensures.read)
     c.clock_if_found.ensures)
 
-pub returns-in_err-clock-clause-read : goal.returns-in_err-clock-clause-read
-returns-in_err-clock-clause-read g c =
-    rw c.in-Some.is
-    (failed _ _ (rw (c.as_slice.ensures.value, c.as_str-2.ensures) at c.in_err-clock.ensures.read) c.from_residual-in_err-clock.ensures.1)
-
 pub returns-clause-read : goal.returns-clause-read
-returns-clause-read g c =
-    rw c.in-Some.is
-    (goes _ (rw (c.as_slice.ensures.value, c.as_str-2.ensures) at c.in_ok-clock.ensures.read) (rw c.zone_of_file.ensures refl))
+returns-clause-read g c = rw c.in-Some.is (rw c.as_slice.ensures.value at c.zone_of_file.ensures)

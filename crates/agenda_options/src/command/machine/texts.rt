@@ -36,8 +36,11 @@ pub(super) const LEAST: &str = "\
 The minimum length of a gap, such as 90min or 2h";
 
 pub(super) const EXCEPT: &str = "\
-Ignore the job with this name, as it is printed;
-may be given more than once";
+Ignore the jobs and crontabs with such a name: in it
+* stands for any bytes and ? for one byte; may be
+given more than once";
+
+pub(super) const ONLY: &str = "Ignore all other jobs; may be given more than once";
 
 pub(super) const IDLE: &str = "\
 Include idle jobs, whose commands do nothing on the
@@ -94,9 +97,9 @@ Example:
 pub(super) const CLEAR: &str = "Succeeds if no job of a machine starts in a span";
 
 pub(super) const AFTER_CLEAR: &str = "\
-Prints nothing if no start of a job may fall into the span, and the exit status is 0.
-Otherwise it prints the first one, and the exit status is 1. It is also 1 if an error is
-skipped, or if a file can't be read.
+Exit status 0: no start of a job may fall into the span, and nothing is unknown. 1: a start
+may, and the first one is printed. 4: none is known to, but a job may start at times that
+files don't tell, as standard error says. 2: an argument is rejected.
 
 Example:
   agenda machine clear --until +90min && reboot";

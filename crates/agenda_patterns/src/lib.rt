@@ -1,0 +1,8 @@
+//! Patterns of names, with `*` and `?`.
+#![tactic(auto)]
+
+mod pattern;
+#[cfg(test)]
+mod tests;
+
+pub use pattern::fits;
