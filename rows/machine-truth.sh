@@ -73,6 +73,15 @@ truth_clear <<'ROWS'
 *a@b.timer U/a@.timer=[Timer]\nOnBootSec=5\n N/a@.service|12:00:00-13:00:00|--except a-b.timer|||monotonic U/a@.timer|0
 ROWS
 
+# What systemd reads otherwise: a range of days from the end of the month, and a line with a carriage return in it. An empty value doesn't change that.
+truth_clear <<'ROWS'
+*a.timer U/a.timer=[Timer]\nOnCalendar=*-*~1..4/2\x2003:00\n|12:00:00-13:00:00||||otherwise U/a.timer:2,clear 1|4
+*a.timer U/a.timer=[Timer]\nOnCalendar=*-*~1..4/2\x2003:00\n|12:00:00-13:00:00|--except a.timer|||otherwise U/a.timer:2|0
+*a.timer U/a.timer=[Timer]\nOnCalendar=*-*~1..3/2\x2003:00\n|12:00:00-13:00:00|||||0
+*a.timer U/a.timer=[Timer]\nOnCalendar=03:00\n E/a.timer.d/x.conf=[Timer]\nOnCalendar=*-*~1..4/2\x2004:00\n|12:00:00-13:00:00||||otherwise E/a.timer.d/x.conf:2,clear 1|4
+*a.timer U/a.timer=[Timer]\nOnCalendar=03:00\nX-A=b\x0dc\n|12:00:00-13:00:00||||otherwise U/a.timer:3,clear 1|4
+ROWS
+
 # What agenda rejects, systemd may take: an event with a fraction of a second, and a file that isn't UTF-8. What systemd rejects starts nothing.
 truth_clear <<'ROWS'
 *a.timer U/a.timer=[Timer]\nOnCalendar=*:*:00.5\n|12:00:00-13:00:00|||root/usr/lib/systemd/system/a.timer:2: error: second in '*:*:00.5': fractions are not supported [Fraction]|clear 1|4

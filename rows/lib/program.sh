@@ -134,6 +134,7 @@ program_compare() {
 #   zoned PATH:LINE     the line comes after CRON_TZ=
 #   monotonic PATH KEY  the timer starts by KEY= alone, or by OnBootSec= if KEY is missing
 #   also PATH KEY       the timer also starts by KEY=
+#   otherwise PATH:LINE systemd may read the line otherwise
 #   anacron, at PATH, user PATH    jobs that aren't planned
 #   cron                no cron daemon
 #   zone                the zone is unknown
@@ -160,6 +161,7 @@ program_lines() {
       anacron) path=etc/anacrontab why='anacron starts jobs by days since they ran' line=unknown: ;;
       monotonic) why="starts by ${why:-OnBootSec}=" line=unknown: ;;
       also) why="also starts by $why=" line=unknown: ;;
+      otherwise) why='systemd may read it otherwise' line=unknown: ;;
       at) why='jobs of at' line=unknown: ;;
       user) why='user timers' line=unknown: ;;
       cron)

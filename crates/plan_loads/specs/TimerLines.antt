@@ -1,6 +1,6 @@
 -- What systemd 252 loads of a timer: nothing of a file that it rejects, and only the events that it accepts.
 use Rattle.std.specs.Prelude.{ℕ, ◌+◌, Bool, true, false, not, ◌&&◌, ◌||◌, ◌==◌, if◌then◌else◌, List, [], ◌∷◌, ◌++◌, length, Option, None, Some, Ok, Err, codes, is_none, is_some, unwrap_or}
-use Rattle.std.specs.List.{slice_get}
+use Rattle.std.specs.List.{flat_map, slice_get}
 use Rattle.std.specs.Option.{option_map}
 use Rattle.std.specs.Str.{byte, bytes_eq}
 use Rattle.plan_loads.specs.declared.timer_lines.Switches.{Switches}
@@ -13,6 +13,7 @@ use Rattle.plan_parts.specs.Parts.{files_of}
 use Rattle.plan_rules.specs.LineFaults.{TextReading}
 use Rattle.plan_rules.specs.Timer.{is_reset}
 use Rattle.plan_spans.specs.Booleans.{boolean_after}
+use Rattle.plan_systemd.specs.FromEnd.{from_end_of}
 use Rattle.plan_systemd.specs.Rejection.{rejection_of}
 use Rattle.plan_triggers.specs.TimerFile.{has_bad_header, is_elapsing_span, line_note}
 use Rattle.plan_texts.specs.Lines.{lines}
@@ -176,17 +177,25 @@ lines_loading parts path text lines =
 -- ---- lines that systemd reads otherwise
 
 -- a line of the text of a timer that systemd may read otherwise, where it comes from
-abbrev pub line_otherwise : Parts → (number : ℕ) → (note : Option (List ℕ)) → List NotPlanned
-line_otherwise parts number None = []
-line_otherwise parts number (Some note) =
+abbrev pub line_otherwise : Parts → (number : ℕ) → (is_otherwise : Bool) → List NotPlanned
+line_otherwise parts number false = []
+line_otherwise parts number true =
     let origin = origin_of (texts_of (files_of parts)) number in
     record { path = path_at (files_of parts) origin.part; why = LineUnknown origin.line (codes "systemd may read it otherwise") } ∷ []
 
--- all such lines; the first of these has this number
+-- all lines of which it doesn't read all bytes; the first of these lines has this number
 abbrev pub read_otherwise : Parts → (number : ℕ) → List (List ℕ) → List NotPlanned
 read_otherwise parts number [] = []
 read_otherwise parts number (line ∷ more) =
-    line_otherwise parts number (line_note line) ++ read_otherwise parts (number + 1) more
+    line_otherwise parts number (is_some (line_note line)) ++ read_otherwise parts (number + 1) more
+
+-- systemd accepts the event of a setting, but reads its days from the end of the month as other days
+abbrev pub is_event_otherwise : Option (List ℕ × List ℕ) → Bool
+is_event_otherwise None = false
+is_event_otherwise (Some setting) = is_event setting && (is_none (rejection_of setting.1) && is_some (from_end_of setting.1))
+
+abbrev pub event_otherwise : Parts → ℕ × List ℕ → List NotPlanned
+event_otherwise parts line = line_otherwise parts line.0 (is_event_otherwise (setting_of (trimmed line.1)))
 
 -- what is loaded, with more that isn't planned
 abbrev pub with_more : KnownLoading → List NotPlanned → KnownLoading
@@ -195,5 +204,6 @@ with_more loading more = record { text = loading.text; reports = loading.reports
 -- a text that is too large or isn't UTF-8 makes no job anyway
 abbrev pub timer_loading : Parts → (path text : List ℕ) → TextReading (List ℕ) → KnownLoading
 timer_loading parts path text (Ok read) =
-    with_more (lines_loading parts path text (whole_lines read)) (read_otherwise parts 1 (lines read))
+    with_more (with_more (lines_loading parts path text (whole_lines read)) (read_otherwise parts 1 (lines read)))
+    (flat_map (event_otherwise parts) (whole_lines read))
 timer_loading parts path text (Err fault) = record { text = Some text; reports = [] }

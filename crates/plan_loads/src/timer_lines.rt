@@ -1,8 +1,9 @@
 //! What systemd 252 loads of a timer: nothing of a file that it rejects, and only the events that it accepts.
 
 ghost use Rattle.std.specs.Prelude.{◌≡◌, ℕ, List, Option, None, ◌++◌, ◌∷◌, [], ◌≤◌, IfOk, OnOk, is_some, length, map};
+ghost use Rattle.std.specs.List.{flat_map};
 ghost use Rattle.std.specs.Option.{option_map};
-ghost use Rattle.plan_loads.specs.TimerLines.{after_line, after_plain, after_section, after_setting, elapses_after, event_hint, event_report, event_why, is_event, is_triggered, line_of, line_otherwise, lines_loading, loading_by, no_scan, no_switches, other_triggers, path_at, read_otherwise, scan_from, span_after, span_why, switch_report, switches_after, timer_loading, trimmed_lines, whole_report, with_text, with_text_unless};
+ghost use Rattle.plan_loads.specs.TimerLines.{after_line, after_plain, after_section, after_setting, elapses_after, event_hint, event_otherwise, event_report, event_why, is_event, is_event_otherwise, is_triggered, line_of, line_otherwise, lines_loading, loading_by, no_scan, no_switches, other_triggers, path_at, read_otherwise, scan_from, span_after, span_why, switch_report, switches_after, timer_loading, trimmed_lines, whole_report, with_text, with_text_unless};
 ghost use Rattle.plan_parts.specs.Parts.{files_of};
 ghost use Rattle.plan_rules.specs.FileText.{text_reading};
 ghost use Rattle.plan_texts.specs.Limits.{most_bytes};
@@ -14,7 +15,7 @@ use crate::loading::{Loading, all_loaded};
 use plan_parts::Parts;
 use plan_rules::{is_reset, text_of};
 use plan_spans::boolean_after;
-use plan_systemd::rejection;
+use plan_systemd::{is_read_otherwise, rejection};
 use plan_texts::Text;
 use plan_texts::lines::lines;
 use plan_texts::whole_lines::{WholeLine, trimmed, whole_lines};
@@ -82,8 +83,10 @@ pub(crate) fn timer_loading(
     let every = lines(alloc, text)?;
     let mut otherwise = read_otherwise(alloc, parts, every.as_slice())?;
     let lines = whole_lines(alloc, text)?;
+    let mut events = events_otherwise(alloc, parts, lines.as_slice())?;
     let Loading { text, mut reports } = lines_loading(alloc, parts, path, bytes, lines.as_slice())?;
     reports.append(&mut otherwise)?;
+    reports.append(&mut events)?;
     Ok(Loading { text, reports })
 }
 
@@ -99,10 +102,36 @@ fn read_otherwise(
     let mut found = Vec::new(alloc);
     let mut number = 1;
     for line in lines {
-        add_otherwise(alloc, &mut found, parts, number, line)?;
+        add_otherwise(alloc, &mut found, parts, number, line_note(line).is_some())?;
         number = number.saturating_add(1);
     }
     Ok(found)
+}
+
+// Returns the lines of a timer whose events systemd reads otherwise.
+fn events_otherwise(
+    alloc: Global,
+    parts: &Parts,
+    lines: &[WholeLine],
+) -> Result<Vec<NotPlanned>, AllocError>
+    ensures { IfOk result (λ found. found.items ≡ flat_map (event_otherwise parts.now) (map whole_text lines.now)) }
+{
+    let mut found = Vec::new(alloc);
+    for line in lines {
+        let is = is_event_otherwise(alloc, line.text.as_str())?;
+        add_otherwise(alloc, &mut found, parts, line.number, is)?;
+    }
+    Ok(found)
+}
+
+// Returns whether a line sets an event that systemd reads otherwise.
+fn is_event_otherwise(alloc: Global, line: &str) -> Result<bool, AllocError>
+    ensures { IfOk result (λ is. is ≡ is_event_otherwise (setting_of (trimmed line.now))) }
+{
+    match setting_of(trimmed(line)) {
+        Some((key, value)) if is_event(key, value) => is_read_otherwise(alloc, value),
+        _ => Ok(false),
+    }
 }
 
 // Adds a line of a timer, if systemd may read it otherwise.
@@ -111,11 +140,11 @@ fn add_otherwise(
     found: &mut Vec<NotPlanned>,
     parts: &Parts,
     number: u32,
-    line: &str,
+    is_otherwise: bool,
 ) -> Result<(), AllocError>
-    ensures { OnOk result (found.new.items ≡ found.old.items ++ line_otherwise parts.now number (line_note line.now)) }
+    ensures { OnOk result (found.new.items ≡ found.old.items ++ line_otherwise parts.now number is_otherwise) }
 {
-    if line_note(line).is_some() {
+    if is_otherwise {
         let origin = parts.origin(number);
         let why = copy_of(alloc, "systemd may read it otherwise")?;
         found.push(NotPlanned {

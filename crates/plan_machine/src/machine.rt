@@ -2,6 +2,7 @@
 
 ghost use Rattle.std.specs.Prelude.{◌≡◌, ◌++◌, true, IfOk, IfNone, IfSome, OnOk, map, string_bytes};
 ghost use Rattle.plan_timers.specs.Timers.{found_view};
+ghost use Rattle.plan_timers.specs.declared.reports.Why.TheVariants.{NotReadable};
 ghost use Rattle.plan_users.specs.Found.{users_view};
 ghost use Rattle.plan_machine.specs.Machine.{AreTooManyBootUnits, AreTooManyUnits, IsMachine, IsMachineWith, distinct, machine_of, machine_view, machine_with, option_list, said, timer_source, unplanned_of, with_new};
 
@@ -12,7 +13,8 @@ use crate::source::MachineSource;
 use plan_owners::CronDaemon;
 use plan_rules::{Names, SourceKind};
 use plan_services::{PlannedTimers, planned_timers};
-use plan_timers::{NotPlanned, Skipped, TimerSource, TimersFound, copy_of, machine_timers};
+use plan_texts::Text;
+use plan_timers::{NotPlanned, Skipped, TimerSource, TimersFound, Why, copy_of, machine_timers};
 use plan_tree::{Complete, Listed, Tree};
 use plan_units::{UnitDir, search_path};
 use plan_users::{UserTimers, user_timers};
@@ -23,7 +25,7 @@ use std::alloc::{AllocError, Global};
 pub struct Machine {
     /// The sources: crontabs, then the timers that are planned, those of the system and then those of users who linger.
     pub sources: Vec<MachineSource>,
-    /// What is skipped: of crontabs, then of timers, and then of users' timers.
+    /// What is skipped: of crontabs, then of timers, then of users' timers, and then other paths that can't be read.
     pub skipped: Vec<Skipped>,
     /// What starts jobs but isn't planned: anacron, crontabs among the sources that cron ignores, timers whose unit can't start,
     /// at, timers of users: those of users in etc/passwd, and then directories of other homes.
@@ -126,7 +128,50 @@ fn machine_of<T: Tree>(
     let skipped = all_skipped(alloc, skipped, more, last)?;
     let timers = planned_timers(alloc, tree, dirs, timers)?;
     let timers = with_users(timers, of_users)?;
-    machine_with(alloc, tree, sources, skipped, timers, unplanned, cron)
+    let machine = machine_with(alloc, tree, sources, skipped, timers, unplanned, cron)?;
+    with_failures(alloc, tree, machine)
+}
+
+// Returns a machine on which the paths at which errors occurred in its tree are skipped, too.
+fn with_failures<T: Tree>(
+    alloc: Global,
+    tree: &T,
+    machine: Machine,
+) -> Result<Machine, AllocError>
+    ensures { T.is_known ≡ true → IfOk result (λ all. all ≡ machine) }
+{
+    let failures = tree.failures(alloc, "")?;
+    if failures.is_empty() {
+        return Ok(machine);
+    }
+    with_skipped(alloc, machine, failures)
+}
+
+// Returns a machine on which these paths are skipped, too, since they can't be read.
+fn with_skipped(alloc: Global, machine: Machine, paths: Vec<Text>) -> Result<Machine, AllocError>
+    ensures skipped { IfOk result (λ all. all.skipped.items
+        ≡ distinct (machine.skipped.items ++ map (λ path. record { path = path; why = NotReadable }) paths.items)) }
+    ensures others { IfOk result (λ all. all ≡ record machine { skipped = all.skipped }) }
+{
+    let Machine {
+        sources,
+        mut skipped,
+        unplanned,
+        lacks_cron_daemon,
+        cron_daemon,
+    } = machine;
+    for path in paths {
+        let why = Why::NotReadable;
+        skipped.push(Skipped { path, why })?;
+    }
+    let skipped = distinct(alloc, skipped)?;
+    Ok(Machine {
+        sources,
+        skipped,
+        unplanned,
+        lacks_cron_daemon,
+        cron_daemon,
+    })
 }
 
 // Returns some timers, and then those of users.

@@ -1,6 +1,6 @@
 //! How systemd 252 reads a calendar event, where that differs from how agenda reads it.
 
-ghost use Rattle.std.specs.Prelude.{◌≡◌, IfOk, None, false};
+ghost use Rattle.std.specs.Prelude.{◌≡◌, ◌&&◌, IfOk, None, false, is_none, is_some};
 ghost use Rattle.plan_grammar.specs.EventItems.{item_lists};
 ghost use Rattle.plan_systemd.specs.FromEnd.{from_end_hint, from_end_of};
 ghost use Rattle.plan_systemd.specs.MayStop.{event_stop, may_stop};
@@ -98,6 +98,27 @@ pub fn event_differences(
         Err(fault) => match fault.cause {
             RuleCause::NoMemory => Err(AllocError),
             _ => Ok(EventDifferences::none()),
+        },
+    }
+}
+
+/// Returns whether systemd 252 accepts an event, but reads its days from the end of the month as other days than agenda does.
+///
+/// # Errors
+///
+/// `AllocError` if an allocation fails.
+pub fn is_read_otherwise(alloc: Global, text: &str) -> Result<bool, AllocError>
+    ensures { IfOk result (λ is. is ≡ (is_none (rejection_of text.now) && is_some (from_end_of text.now))) }
+{
+    match event_items(alloc, text) {
+        Ok(items) => {
+            let rejected = event_rejection(alloc, text, &items)?;
+            let from_end = from_end_hint(alloc, &items)?;
+            Ok(rejected.is_none() && from_end.is_some())
+        }
+        Err(fault) => match fault.cause {
+            RuleCause::NoMemory => Err(AllocError),
+            _ => Ok(false),
         },
     }
 }

@@ -18,7 +18,7 @@ mod rejected;
 mod skipped;
 mod spacing;
 
-pub use differences::{EventDifferences, event_differences};
+pub use differences::{EventDifferences, event_differences, is_read_otherwise};
 pub use hints::event_hint;
 pub use merged::may_merge;
 pub use rejected::rejection;

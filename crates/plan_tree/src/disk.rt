@@ -4,6 +4,7 @@ use crate::name::Name;
 use crate::tree::{Listing, Node, Status, Tree};
 use plan_texts::Text;
 use std::alloc::{AllocError, Global};
+use std::cell::Cell;
 use std::fs::{self, File};
 use std::io::{self, ErrorKind, Read};
 use std::os::unix::fs::{FileTypeExt, MetadataExt};
@@ -19,12 +20,17 @@ const PERMISSIONS: u32 = 0o7777;
 #[derive(Drop)]
 pub struct DiskTree<'a> {
     runtime: &'a HostRuntime,
+    // The paths at which errors occurred.
+    failed: Cell<Vec<Text>>,
 }
 
 impl<'a> DiskTree<'a> {
     /// Returns the files of the running machine.
     pub fn new(runtime: &'a HostRuntime) -> DiskTree<'a> {
-        DiskTree { runtime }
+        DiskTree {
+            runtime,
+            failed: Cell::new(Vec::new(runtime.alloc())),
+        }
     }
 
     fn look(&self, path: &str) -> io::Result<Node> {
@@ -77,14 +83,48 @@ impl<'a> DiskTree<'a> {
             .read_to_end(&mut bytes)?;
         Ok(bytes)
     }
+
+    // Keeps a path at which an error occurred, or its first part that can't be looked at, and returns `other`.
+    fn fail<V: Drop>(
+        &self,
+        alloc: Global,
+        path: &str,
+        fault: io::Error,
+        other: V,
+    ) -> Result<V, AllocError> {
+        if fault.kind() == ErrorKind::OutOfMemory {
+            return Err(AllocError);
+        }
+        if !is_absence(&fault) {
+            let path = Text::new(String::from_str(alloc, self.failing_part(path))?);
+            let mut failed = self.failed.replace(Vec::new(alloc));
+            failed.push(path)?;
+            self.failed.set(failed);
+        }
+        Ok(other)
+    }
+
+    // Returns the first part of a path that can't be looked at, or all of it.
+    fn failing_part<'p>(&self, path: &'p str) -> &'p str {
+        for (end, _) in path.match_indices('/') {
+            let part = &path[..end];
+            if !part.is_empty() && fs::symlink_metadata(self.runtime, part).is_err() {
+                return part;
+            }
+        }
+        path
+    }
 }
 
-// Returns `AllocError` if an error says that an allocation failed, otherwise `other`.
-fn unless_memory<V: Drop>(fault: io::Error, other: V) -> Result<V, AllocError> {
-    match fault.kind() {
-        ErrorKind::OutOfMemory => Err(AllocError),
-        _ => Ok(other),
-    }
+// Returns whether an error says no more than that nothing is there, or that a directory is, or nothing but links.
+fn is_absence(fault: &io::Error) -> bool {
+    matches!(
+        fault.kind(),
+        ErrorKind::NotFound
+            | ErrorKind::NotADirectory
+            | ErrorKind::IsADirectory
+            | ErrorKind::FilesystemLoop
+    )
 }
 
 impl Tree for DiskTree<'_> {
@@ -100,7 +140,7 @@ impl Tree for DiskTree<'_> {
             Ok(node) => Ok(node),
             Err(fault) => match fault.kind() {
                 ErrorKind::NotFound | ErrorKind::NotADirectory => Ok(Node::Missing),
-                _ => unless_memory(fault, Node::Unreadable),
+                _ => self.fail(alloc, path, fault, Node::Unreadable),
             },
         }
     }
@@ -108,21 +148,30 @@ impl Tree for DiskTree<'_> {
     fn names(&self, alloc: Global, path: &str) -> Result<Option<Listing>, AllocError> {
         match self.list(alloc, path) {
             Ok(listing) => Ok(Some(listing)),
-            Err(fault) => unless_memory(fault, None),
+            Err(fault) => self.fail(alloc, path, fault, None),
         }
     }
 
-    fn status(&self, _alloc: Global, path: &str) -> Result<Option<Status>, AllocError> {
+    fn status(&self, alloc: Global, path: &str) -> Result<Option<Status>, AllocError> {
         match self.look_at_status(path) {
             Ok(status) => Ok(Some(status)),
-            Err(fault) => unless_memory(fault, None),
+            Err(fault) => self.fail(alloc, path, fault, None),
         }
     }
 
     fn front(&self, alloc: Global, path: &str, most: u64) -> Result<Option<Vec<u8>>, AllocError> {
         match self.read(alloc, path, most) {
             Ok(bytes) => Ok(Some(bytes)),
-            Err(fault) => unless_memory(fault, None),
+            Err(fault) => self.fail(alloc, path, fault, None),
         }
+    }
+
+    fn failures(&self, alloc: Global, dir: &str) -> Result<Vec<Text>, AllocError> {
+        let mut failures = Vec::new(alloc);
+        for path in self.failed.replace(Vec::new(alloc)) {
+            let part = path.as_str().strip_prefix(dir).unwrap_or(path.as_str());
+            failures.push(Text::new(String::from_str(alloc, part)?))?;
+        }
+        Ok(failures)
     }
 }

@@ -142,4 +142,8 @@ impl<T: Complete> Tree for Listed<'_, T> {
     fn front(&self, alloc: Global, path: &str, most: u64) -> Result<Option<Vec<u8>>, AllocError> {
         self.tree.front(alloc, path, most)
     }
+
+    fn failures(&self, alloc: Global, dir: &str) -> Result<Vec<Text>, AllocError> {
+        self.tree.failures(alloc, dir)
+    }
 }

@@ -4,6 +4,7 @@ ghost use Rattle.std.specs.Prelude.{◌≡◌, [], true, IfOk, string_bytes};
 ghost use Rattle.plan_tree.specs.Tree.{below, is_directory, path_below};
 
 use crate::tree::{Listing, Node, Status, Tree};
+use plan_texts::Text;
 use std::alloc::{AllocError, Global};
 
 /// The tree below a directory of another tree: at a path it has what the other one has at the directory's path, `/`, and
@@ -48,6 +49,11 @@ impl<T: Tree> Tree for Rooted<'_, T> {
     fn front(&self, alloc: Global, path: &str, most: u64) -> Result<Option<Vec<u8>>, AllocError> {
         let whole = path_below(alloc, self.root, path)?;
         self.tree.front(alloc, whole.as_str(), most)
+    }
+
+    fn failures(&self, alloc: Global, dir: &str) -> Result<Vec<Text>, AllocError> {
+        let whole = path_below(alloc, self.root, dir)?;
+        self.tree.failures(alloc, whole.as_str())
     }
 }
 

@@ -64,7 +64,7 @@ pub struct Status {
 
 /// A tree of files. Paths are relative to its root, and have no `/` at either end.
 pub trait Tree {
-    ghost use Rattle.std.specs.Prelude.{◌≡◌, Bool, true, IfOk, take};
+    ghost use Rattle.std.specs.Prelude.{◌≡◌, [], Bool, true, IfOk, take};
     ghost use Rattle.std.specs.Option.{option_map};
     ghost use Rattle.plan_tree.specs.Tree.{Held, listed};
 
@@ -90,4 +90,12 @@ pub trait Tree {
     fn front(&self, alloc: Global, path: &str, most: u64) -> Result<Option<Vec<u8>>, AllocError>
         ensures { is_known ≡ true → IfOk result (λ bytes.
             option_map (λ read. read.items) bytes ≡ option_map (take most) ((held self.now).bytes path.now)) };
+
+    /// Returns the paths below a directory at which an error occurred since the last call, other than that nothing is there.
+    /// They are relative to the directory. A tree that contracts know has none.
+    fn failures(&self, alloc: Global, _dir: &str) -> Result<Vec<Text>, AllocError>
+        ensures { is_known ≡ true → IfOk result (λ paths. paths.items ≡ []) }
+    {
+        Ok(Vec::new(alloc))
+    }
 }
