@@ -6,7 +6,6 @@ use Rattle.std.specs.Str.{byte, bytes_eq}
 use Rattle.plan_loads.specs.declared.timer_lines.Switches.{Switches}
 use Rattle.plan_loads.specs.Texts.{KnownLoading}
 use Rattle.plan_parts.specs.declared.parts.Parts.{Parts}
-use Rattle.plan_parts.specs.declared.origin.Origin.{Origin}
 use Rattle.plan_parts.specs.Files.{FileBytes, texts_of}
 use Rattle.plan_parts.specs.Origin.{origin_of}
 use Rattle.plan_parts.specs.Parts.{files_of}
@@ -178,10 +177,11 @@ lines_loading parts path text lines =
 
 -- a line of the text of a timer that systemd may read otherwise, where it comes from
 abbrev pub line_otherwise : Parts → (number : ℕ) → (is_otherwise : Bool) → List NotPlanned
-line_otherwise parts number false = []
-line_otherwise parts number true =
+line_otherwise parts number is_otherwise =
     let origin = origin_of (texts_of (files_of parts)) number in
-    record { path = path_at (files_of parts) origin.part; why = LineUnknown origin.line (codes "systemd may read it otherwise") } ∷ []
+    if is_otherwise
+    then record { path = path_at (files_of parts) origin.part; why = LineUnknown origin.line (codes "systemd may read it otherwise") } ∷ []
+    else []
 
 -- all lines of which it doesn't read all bytes; the first of these lines has this number
 abbrev pub read_otherwise : Parts → (number : ℕ) → List (List ℕ) → List NotPlanned
