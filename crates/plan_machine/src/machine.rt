@@ -133,11 +133,7 @@ fn machine_of<T: Tree>(
 }
 
 // Returns a machine on which the paths at which errors occurred in its tree are skipped, too.
-fn with_failures<T: Tree>(
-    alloc: Global,
-    tree: &T,
-    machine: Machine,
-) -> Result<Machine, AllocError>
+fn with_failures<T: Tree>(alloc: Global, tree: &T, machine: Machine) -> Result<Machine, AllocError>
     ensures { T.is_known ≡ true → IfOk result (λ all. all ≡ machine) }
 {
     let failures = tree.failures(alloc, "")?;
