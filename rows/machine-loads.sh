@@ -124,7 +124,7 @@ loads_rows <<'ROWS'
 |etc/crontab=@daily\x20carl\x20x\n||not etc/crontab:1 user 'carl' does not exist: cron ignores this file
 |C/a=#\x20*\x20*\x20*\x20*\x20*\x20carl\x20x\nA=carl\n0\x204\x20*\x20*\x20*\x20bob\x20carl\n|a:3|
 |C/a=0\x204\x20*\x20*\x20*\x20Ann\x20x\n||not C/a:1 user 'Ann' does not exist: cron ignores this file
-|etc/passwd=ann\n\nbob:x\nann:x:one:1\nann::7\n:x:8:8\n C/a=0\x204\x20*\x20*\x20*\x20ann\x20x\n C/b=0\x204\x20*\x20*\x20*\x20bob\x20x\n|a:1|not C/b:1 user 'bob' does not exist: cron ignores this file
+|etc/passwd=ann\n\nbob:x\nann:x:one:1\nbob::7\nbob::7:\nann::7:8\n:x:8:8\n C/a=0\x204\x20*\x20*\x20*\x20ann\x20x\n C/b=0\x204\x20*\x20*\x20*\x20bob\x20x\n|a:1|not C/b:1 user 'bob' does not exist: cron ignores this file
 |etc/passwd= C/a=FOUR||not C/a:1 user 'root' does not exist: cron ignores this file
 ROWS
 loads_users_of_root=$loads_users
@@ -132,7 +132,9 @@ loads_users=
 loads_rows <<'ROWS'
 |C/a=0\x204\x20*\x20*\x20*\x20carl\x20x\n S/dave=MINE|a:1 dave:1|
 |etc/passwd/ C/a=0\x204\x20*\x20*\x20*\x20carl\x20x\n S/dave=MINE|a:1 dave:1|
-|etc/passwd=root:x:0:0:\xff\n C/a=0\x204\x20*\x20*\x20*\x20carl\x20x\n|a:1|
+|etc/passwd=root:x:0:0:\xff\n C/a=0\x204\x20*\x20*\x20*\x20carl\x20x\n||not C/a:1 user 'carl' does not exist: cron ignores this file
+|etc/passwd=b\xfc:x:1:1\ncarl:x:2:2:\xfc:/\xfc C/a=0\x204\x20*\x20*\x20*\x20carl\x20x\n|a:1|
+|etc/passwd=#carl:x:1:1\n+dave:x:2:2\n C/a=0\x204\x20*\x20*\x20*\x20#carl\x20x\n C/b=0\x204\x20*\x20*\x20*\x20+dave\x20x\n||not C/a:1 user '#carl' does not exist: cron ignores this file,not C/b:1 user '+dave' does not exist: cron ignores this file
 ROWS
 loads_users=$loads_users_of_root
 

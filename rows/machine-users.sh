@@ -103,6 +103,19 @@ etc/passwd=eve:x:1:1::srv/eve:/bin/sh\n srv/eve/.config/systemd/user/e.timer=DAI
 etc/passwd=eve:x:x:1::/srv/eve:/bin/sh\n srv/eve/.config/systemd/user/e.timer=DAILY srv/eve/.config/systemd/user/e.service=DOES srv/eve/.config/systemd/user/default.target.wants/e.timer>../e.timer var/lib/systemd/linger/eve||
 ROWS
 
+# Each line is read by itself, as glibc reads it (nss_files): what isn't UTF-8 in one of them leaves the other users as they are,
+# and white space, `+` and zeros may be before a number. `%U` is that number in decimal.
+users_number='V/a.timer=[Timer]\nOnCalendar=daily\nUnit=%u-%U.service\n W/default.target.wants/a.timer>/usr/lib/systemd/user/a.timer'
+users_rows <<ROWS
+etc/passwd=b\xfcb:x:2:2:B\xfcb:/srv/b:/bin/sh\ncarl:x:3:3:C\xe4rl:/srv/\xfc:/bin/\xe4\nann:x:1000:1000:\xc4nn:/home/ann:/bin/\xe4\n A ANN var/lib/systemd/linger/carl|ann/a.timer=P/a.timer|
+etc/passwd=#ann:x:1:1::/srv:\n\x20\x20#ann:x:1:1::/srv:\n\n\x20\tann:x:1000:1000::/home/ann:/bin/sh\n A ANN|ann/a.timer=P/a.timer|
+etc/passwd=ann:x:1000:1000::/home/ann A ANN|ann/a.timer=P/a.timer|
+$users_number etc/passwd=ann:x:+1000:1::/home/ann:\nbob:x:\x20\t007:\x20+01::/home/bob:\n V/ann-1000.service=DOES V/bob-7.service=DOES BOTH|ann/a.timer=V/a.timer bob/a.timer=V/a.timer|
+$users_number etc/passwd=ann:x:4294967295:1::/home/ann:\nbob:x:000:1::/home/bob:\n V/ann-4294967295.service=DOES V/bob-0.service=DOES BOTH|ann/a.timer=V/a.timer bob/a.timer=V/a.timer|
+$users_number etc/passwd=ann:x:4294967296:1::/home/ann:\nbob:x:-1:1::/home/bob:\n BOTH||
+$users_number etc/passwd=ann:x:1\x20:1::/home/ann:\nbob:x:0x1:1::/home/bob:\nann:x:++1:1::/home/ann:\nbob:x:+\x201:1::/home/bob:\nann:x:+:1::/home/ann\nbob:x:1::/home/bob:\n BOTH||
+ROWS
+
 # ---- answers
 
 # The root of the rows below: the timer a.timer of ann, who lingers, and z.timer of the system.

@@ -1,14 +1,12 @@
 //! The users of a machine (passwd(5)).
 
 ghost use Rattle.std.specs.Prelude.{◌≡◌, true, IfOk, map};
-ghost use Rattle.std.specs.Char.{is_ascii_digit};
-ghost use Rattle.std.specs.List.{list_all};
 ghost use Rattle.std.specs.Option.{option_map};
-ghost use Rattle.plan_owners.specs.Users.{fields_of, home_in, is_number, names_of, number_of, user_by, user_in, users_at, users_in, users_of, users_of_found};
+ghost use Rattle.plan_owners.specs.Users.{home_in, id_in, name_in, names_of, number_of, text_in, user_by, user_in, users_at, users_of, users_of_found};
 
-use plan_rules::{Names, text_of};
-use plan_texts::Text;
-use plan_texts::lines::lines;
+use plan_rules::Names;
+use plan_texts::lines::is_too_large;
+use plan_texts::{Text, pieces};
 use plan_tree::{Tree, contents};
 use std::alloc::{AllocError, Global};
 
@@ -20,9 +18,9 @@ const MOST_READ: u64 = 1_048_577;
 pub struct User {
     /// The name.
     pub name: Text,
-    /// The number, as it is written.
+    /// The number, in decimal.
     pub number: Text,
-    /// The home directory, as it is written; empty if the line has none.
+    /// The home directory, as it is written; empty if the line has none, or one that isn't UTF-8.
     pub home: Text,
 }
 
@@ -61,90 +59,91 @@ fn users_of_found(alloc: Global, found: Option<Vec<u8>>) -> Result<Option<Vec<Us
     let Some(bytes) = found else {
         return Ok(None);
     };
-    let Ok(text) = text_of(bytes.as_slice()) else {
+    if is_too_large(bytes.as_slice()) {
         return Ok(None);
-    };
-    let lines = lines(alloc, text)?;
-    let users = users_in(alloc, lines.as_slice())?;
-    Ok(Some(users))
-}
-
-// Returns the users of some lines.
-fn users_in(alloc: Global, lines: &[&str]) -> Result<Vec<User>, AllocError>
-    ensures { IfOk result (λ users. users.items ≡ users_in (map (λ line. line.now) lines.now)) }
-{
+    }
     let mut users = Vec::new(alloc);
-    for line in lines {
+    let lines = pieces(alloc, bytes.as_slice(), b'\n')?;
+    for line in lines.as_slice() {
         if let Some(user) = user_in(alloc, line)? {
             users.push(user)?;
         }
     }
-    Ok(users)
+    Ok(Some(users))
 }
 
 // Returns the user of a line.
 #[tactic(auto, unfolding(crate::specs::Users::user_in))]
-fn user_in(alloc: Global, line: &str) -> Result<Option<User>, AllocError>
+fn user_in(alloc: Global, line: &[u8]) -> Result<Option<User>, AllocError>
     ensures { IfOk result (λ user. user ≡ user_in line.now) }
 {
-    let fields = fields_of(alloc, line)?;
+    let fields = pieces(alloc, line, b':')?;
     user_by(alloc, fields.as_slice())
 }
 
-// Returns the fields of a line: the parts between its colons.
-fn fields_of(alloc: Global, line: &str) -> Result<Vec<&str>, AllocError>
-    ensures { IfOk result (λ fields. map (λ field. field.now) fields.items ≡ fields_of line.now) }
-{
-    let fields = line.split(':').collect(alloc)?;
-    Ok(fields)
-}
-
 // Returns the user of a line with these fields.
-fn user_by(alloc: Global, fields: &[&str]) -> Result<Option<User>, AllocError>
+#[tactic(auto, using(crate::proofs::UserLemmas::too_few))]
+fn user_by(alloc: Global, fields: &[&[u8]]) -> Result<Option<User>, AllocError>
     ensures { IfOk result (λ user. user ≡ user_by (map (λ field. field.now) fields.now)) }
 {
-    match fields {
-        [name, _, number, more @ ..] if is_number(number.as_bytes()) => Ok(Some(User {
-            name: Text::new(String::from_str(alloc, name)?),
-            number: Text::new(String::from_str(alloc, number)?),
-            home: Text::new(String::from_str(alloc, home_in(more))?),
-        })),
-        _ => Ok(None),
+    let [name, _, number, group, more @ ..] = fields else {
+        return Ok(None);
+    };
+    let (Some(name), Some(number), Some(_)) = (name_in(name), id_in(number), id_in(group)) else {
+        return Ok(None);
+    };
+    Ok(Some(User {
+        name: Text::new(String::from_str(alloc, name)?),
+        number: Text::new(format!(in alloc; "{number}")?),
+        home: Text::new(String::from_str(alloc, home_in(more))?),
+    }))
+}
+
+// Returns the name of a user in a field.
+fn name_in(field: &[u8]) -> Option<&str>
+    ensures { option_map (λ name. name.now) result ≡ name_in field.now }
+{
+    let name = text_in(field)?;
+    match name.as_bytes() {
+        [b'#' | b'+' | b'-', ..] => None,
+        _ => Some(name),
     }
 }
 
-// Returns the home directory among the fields after the number, or nothing.
-fn home_in<'a>(fields: &[&'a str]) -> &'a str
+// Returns the number of a user or a group in a field.
+#[tactic(auto, using(crate::proofs::UserLemmas::parsed))]
+fn id_in(field: &[u8]) -> Option<u32>
+    ensures { result ≡ id_in field.now }
+{
+    text_in(field)?.parse::<u32>().ok()
+}
+
+// Returns the text of a field without the white space before it, if it is UTF-8.
+#[tactic(auto, using(plan_texts::proofs::Utf8Lemmas::yes_utf8, plan_texts::proofs::Utf8Lemmas::no_utf8))]
+fn text_in(field: &[u8]) -> Option<&str>
+    ensures { option_map (λ text. text.now) result ≡ text_in field.now }
+{
+    match str::from_utf8(field) {
+        Ok(text) => Some(text.trim_ascii_start()),
+        Err(_) => None,
+    }
+}
+
+// Returns the home directory among the fields after the group, or nothing.
+#[tactic(auto, using(plan_texts::proofs::Utf8Lemmas::yes_utf8, plan_texts::proofs::Utf8Lemmas::no_utf8))]
+fn home_in<'a>(fields: &[&'a [u8]]) -> &'a str
     ensures { result.now ≡ home_in (map (λ field. field.now) fields.now) }
 {
     match fields {
-        [_, _, home, ..] => home,
+        [_, home, ..] => match str::from_utf8(home) {
+            Ok(home) => home,
+            Err(_) => "",
+        },
         _ => "",
     }
 }
 
-// Returns whether a text is a number.
-fn is_number(text: &[u8]) -> bool
-    ensures { result ≡ is_number text.now }
-{
-    !text.is_empty() && are_digits(text)
-}
-
-// Returns whether all bytes of a text are digits.
-fn are_digits(text: &[u8]) -> bool
-    ensures { result ≡ list_all is_ascii_digit text.now }
-{
-    text.iter().all(|byte| is_digit(*byte))
-}
-
-// Returns whether a byte is a digit.
-fn is_digit(byte: u8) -> bool
-    ensures { result ≡ is_ascii_digit byte }
-{
-    byte.is_ascii_digit()
-}
-
-// Returns the number of the first user with a name, as it is written.
+// Returns the number of the first user with a name, in decimal.
 pub(crate) fn number_of<'a>(users: &'a [User], name: &str) -> Option<&'a str>
     ensures { option_map (λ number. number.now) result ≡ number_of users.now name.now }
 {

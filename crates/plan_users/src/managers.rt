@@ -18,7 +18,7 @@ use std::alloc::{AllocError, Global};
 pub(crate) struct Manager {
     // The name of the user.
     pub(crate) user: Text,
-    // The number of the user, as it is written.
+    // The number of the user, in decimal.
     pub(crate) number: Text,
     // The home directory, as a path in the tree.
     pub(crate) home: Place,
