@@ -22,6 +22,7 @@ program_sources <<'ROWS'
 *a.timer U/a.timer U/x.target||wanted D/a.timer x.target
 U/default.target U/default.target.wants/a.timer>y U/a.timer|U/a.timer|
 U/default.target=[Unit]\nWants=a.timer\n U/a.timer|U/a.timer|
+U/default.target E/default.target.d/w.conf=#\x20caf\xe9\n[Unit]\nWants=a.timer\n U/a.timer|U/a.timer|
 U/default.target>x.target U/x.target *a.timer U/a.timer|U/a.timer|
 U/default.target>/etc/systemd/system/x.target U/x.target *a.timer U/a.timer|U/a.timer|
 U/default.target>y.target U/y.target>x.target U/x.target *a.timer U/a.timer|U/a.timer|
@@ -84,7 +85,7 @@ E/x.target=[Unit]\nWants=b.timer\x20\\\n#\x20c.timer\n\x20\x20a.timer\n U/a.time
 E/x.target=[Unit]\n#Wants=a.timer\n;Wants=a.timer\n U/a.timer||
 E/x.target=[Unit]\nWants=a.timer\r\n U/a.timer|U/a.timer|
 E/x.target=[Unit]\nWants=a.timer U/a.timer|U/a.timer|
-E/x.target=[Unit]\nWants=a.timer\n#\xff\n U/a.timer||
+E/x.target=[Unit]\nWants=a.timer\n#\xff\n U/a.timer|U/a.timer|
 E/x.target.d/w.conf=[Unit]\nWants=a.timer\n U/a.timer|U/a.timer|
 U/target.d/w.conf=[Unit]\nWants=a.timer\n U/a.timer|U/a.timer|
 E/x.target.d/w.conf=Wants=a.timer\n U/a.timer||
@@ -100,6 +101,25 @@ D/s.service>y U/s-.service.d/w.conf=[Unit]\nWants=a.timer\n U/s.service U/a.time
 D/s-t.service>y U/s-.service.d/w.conf=[Unit]\nWants=a.timer\n U/s-t.service U/a.timer|U/a.timer|
 E/y.target=[Unit]\nWants=a.timer\n U/a.timer||
 E/x.target=[Unit]\nWants=a.timer\n||E/x.target no such timer
+ROWS
+
+# Comments may have any bytes. The first other line that isn't UTF-8, with those that continue it, ends what is read of a file. systemd doesn't
+# load a target whose own file has one; agenda reads the lines before it.
+program_sources <<'ROWS'
+E/x.target.d/w.conf=\x20;\xe9\\\n[Unit]\n#\xe9\nWants=a.timer\n U/a.timer|U/a.timer|
+E/x.target.d/w.conf=[Unit]\nWants=a.timer\nDescription=\xe9\nWants=b.timer\n U/a.timer U/b.timer|U/a.timer|
+E/x.target.d/w.conf=[Unit]\nWants=a.timer\n[\xe9]\n[Unit]\nWants=b.timer\n U/a.timer U/b.timer|U/a.timer|
+E/x.target.d/w.conf=[Unit]\nWants=a.timer\n\x20\t\xe9\x20\nWants=b.timer\n U/a.timer U/b.timer|U/a.timer|
+E/x.target.d/w.conf=[Unit]\nWants=a.timer\x20\\\n#\xe9\nb.timer\nWants=c.timer\n U/a.timer U/b.timer U/c.timer|U/a.timer U/b.timer U/c.timer|
+E/x.target.d/w.conf=[Unit]\nWants=a.timer\nWants=b.timer\x20\\\n\xe9\nWants=c.timer\n U/a.timer U/b.timer U/c.timer|U/a.timer|
+E/x.target.d/w.conf=[Unit]\nWants=a.timer\nWants=b.timer\x20\xe9\\\nc.timer\n U/a.timer U/b.timer U/c.timer|U/a.timer|
+E/x.target.d/w.conf=[Unit]\nWants=a.timer\nWants=b.timer\x20\xe9 U/a.timer U/b.timer|U/a.timer|
+E/x.target.d/w.conf=[Unit]\nWants=a.timer\nDescription=\xc3\x20\xa9\nWants=b.timer\n U/a.timer U/b.timer|U/a.timer|
+E/x.target.d/w.conf=[Unit]\nDescription=\xc3\xa9\nWants=a.timer\n U/a.timer|U/a.timer|
+E/x.target.d/w.conf=[Unit]\nDescription=\xc3\\\n\xa9\nWants=a.timer\n U/a.timer||
+E/x.target.d/v.conf=\xe9\n E/x.target.d/w.conf=[Unit]\nWants=a.timer\n U/a.timer|U/a.timer|
+E/x.target=[Unit]\nWants=a.timer\nDescription=\xe9\nWants=b.timer\n U/a.timer U/b.timer|U/a.timer|
+D/s.service>y U/s.service E/s.service.d/w.conf=#\xe9\n[Unit]\nRequires=a.timer\n U/a.timer|U/a.timer|
 ROWS
 
 # Instances, whose template counts too; templates that are wanted; and specifiers in the settings of instances.

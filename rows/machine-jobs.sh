@@ -97,6 +97,7 @@ program_answers <<'ROWS'
 *a.timer U/a.timer=[Timer]\nOnCalendar=daily\nRandomizedDelaySec=1s\n etc/systemd/system.conf=[Manager]\nDefaultTimerAccuracySec=1h\n|upcoming --utc --delays --after 2024-03-31T00:00:00Z|2024-04-01T00:00:00Z>2024-04-01T01:00:01Z>a.timer>a.service||
 *a.timer U/a.timer=DAILY etc/systemd/system.conf=[Manager]\nDefaultTimerAccuracySec=1h\n usr/lib/systemd/system.conf.d/x.conf=[Manager]\nDefaultTimerAccuracySec=2h\n|upcoming --utc --delays --after 2024-03-31T00:00:00Z|2024-04-01T00:00:00Z>2024-04-01T02:00:00Z>a.timer>a.service||
 *a.timer U/a.timer=DAILY usr/lib/systemd/system.conf.d/x.conf=[Manager]\nDefaultTimerAccuracySec=2h\n run/systemd/system.conf.d/x.conf=[Manager]\nDefaultTimerAccuracySec=3h\n|upcoming --utc --delays --after 2024-03-31T00:00:00Z|2024-04-01T00:00:00Z>2024-04-01T03:00:00Z>a.timer>a.service||
+*a.timer U/a.timer=DAILY etc/systemd/system.conf=#\xe9\n[Manager]\nDefaultTimerAccuracySec=1h\nLogColor=\xe9\nDefaultTimerAccuracySec=2h\n|upcoming --utc --delays --after 2024-03-31T00:00:00Z|2024-04-01T00:00:00Z>2024-04-01T01:00:00Z>a.timer>a.service||
 *a.timer U/a.timer=DAILY etc/systemd/system.conf=DefaultTimerAccuracySec=1h\n[Other]\nDefaultTimerAccuracySec=1h\n[Manager]\nDefaultTimerAccuracySec=soon\n|upcoming --utc --delays --after 2024-03-31T00:00:00Z|2024-04-01T00:00:00Z>2024-04-01T00:01:00Z>a.timer>a.service||
 S/u=@daily\x20a\n etc/systemd/system.conf=[Manager]\nDefaultTimerAccuracySec=1h\n|upcoming --utc --delays --after 2024-03-31T00:00:00Z|2024-04-01T00:00:00Z>2024-04-01T00:00:00Z>u:1>a||
 ROWS

@@ -170,6 +170,11 @@ loads_rows <<'ROWS'
 |*a.timer U/a.timer=DAILY U/a.service=[Unit]\nExecStart=/bin/true\n||idle U/a.timer a.service
 |*a.timer U/a.timer=DAILY U/a.service=[Unit]\nDescription=x\n E/a.service.d/x.conf=[Service]\nExecStart=/bin/true\n|a.timer|
 |*a.timer U/a.timer=DAILY U/a.service=[Service]\nExecStart=/bin/true\n E/a.service.d/x.conf=[Service]\nExecStart=\n||idle U/a.timer a.service
+|*a.timer U/a.timer=DAILY U/a.service=#\xe9\n[Service]\nExecStart=\n||idle U/a.timer a.service
+|*a.timer U/a.timer=DAILY U/a.service=[Service]\nExecStart=/bin/true\n E/a.service.d/x.conf=#\xe9\n[Service]\nExecStart=\n||idle U/a.timer a.service
+|*a.timer U/a.timer=DAILY U/a.service=[Service]\n#\xe9\n E/a.service.d/x.conf=#\xe9\n[Service]\nExecStart=/bin/true\n|a.timer|
+|*a.timer U/a.timer=DAILY U/a.service=[Service]\nExecStart=/bin/true\n E/a.service.d/x.conf=[Service]\nUser=\xe9\nExecStart=\n|a.timer|
+|*a.timer U/a.timer=DAILY U/a.service=[Service]\nExecStart=/bin/true\n E/a.service.d/x.conf=[Service]\nExecStart=\nUser=\xe9\nExecStart=/bin/true\n||idle U/a.timer a.service
 |*a@b.timer U/a@.timer=DAILY U/a@.service=[Service]\nType=oneshot\n||idle U/a@.timer a@b.service
 |*a.timer U/a.timer=[Timer]\nOnCalendar=daily\nUnit=b.target\n U/b.target=[Unit]\n|a.timer|
 ROWS

@@ -4,7 +4,6 @@ use Rattle.std.specs.List.{cons_option}
 use Rattle.std.specs.Str.{bytes_eq}
 use Rattle.plan_spans.specs.Spans.{time_span}
 use Rattle.plan_texts.specs.WholeLines.{trimmed}
-use Rattle.plan_services.specs.Texts.{lines_at}
 use Rattle.plan_tree.specs.declared.tree.Node.{Node}
 use Rattle.plan_tree.specs.Links.{end_of}
 use Rattle.plan_tree.specs.Tree.{Held}
@@ -13,7 +12,7 @@ use Rattle.plan_units.specs.declared.paths.UnitDir.{UnitDir}
 use Rattle.plan_units.specs.DropIns.{is_drop_in}
 use Rattle.plan_units.specs.Entries.{entries_among}
 use Rattle.plan_units.specs.SearchPath.{dir_by}
-use Rattle.plan_units.specs.Settings.{section_name, setting_of}
+use Rattle.plan_units.specs.Settings.{lines_at, section_name, setting_of}
 
 -- ---- one file
 

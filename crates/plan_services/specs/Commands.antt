@@ -7,7 +7,6 @@ use Rattle.plan_services.specs.declared.commands.Section.{Section}
 use Rattle.plan_services.specs.declared.commands.Section.TheVariants as section
 use Rattle.plan_services.specs.declared.commands.ServiceType.{ServiceType}
 use Rattle.plan_services.specs.declared.commands.ServiceType.TheVariants as type
-use Rattle.plan_services.specs.Texts.{lines_at}
 use Rattle.plan_spans.specs.Booleans.{boolean}
 use Rattle.plan_texts.specs.WholeLines.{trimmed}
 use Rattle.plan_tree.specs.Tree.{Held}
@@ -15,7 +14,7 @@ use Rattle.plan_units.specs.declared.merging.Entry.{Entry}
 use Rattle.plan_units.specs.declared.paths.UnitDir.{UnitDir}
 use Rattle.plan_units.specs.declared.unit.Unit.{Unit}
 use Rattle.plan_units.specs.DropIns.{drop_ins}
-use Rattle.plan_units.specs.Settings.{section_name, setting_of}
+use Rattle.plan_units.specs.Settings.{lines_at, section_name, setting_of}
 
 -- ---- values
 

@@ -1,4 +1,3 @@
-pub mod Texts
 pub mod Started
 pub mod Commands
 pub mod Planned

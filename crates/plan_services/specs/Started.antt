@@ -1,10 +1,9 @@
 -- The unit that a timer starts (systemd.timer(5), `Unit=`), and what is wrong with it.
 use Rattle.std.specs.Prelude.{ℕ, Bool, false, if◌then◌else◌, List, [], ◌∷◌, ◌++◌, Option, None, Some, codes}
 use Rattle.std.specs.Str.{bytes_eq}
-use Rattle.plan_texts.specs.WholeLines.{trimmed}
+use Rattle.plan_texts.specs.WholeLines.{readable_lines, trimmed}
 use Rattle.plan_timers.specs.Links.{or_path}
 use Rattle.plan_timers.specs.Source.{TimerParts, files_of_timer}
-use Rattle.plan_services.specs.Texts.{lines_of_text}
 use Rattle.plan_units.specs.Settings.{name_of_word, section_name, setting_of}
 use Rattle.plan_parts.specs.Files.{FileBytes}
 use Rattle.plan_units.specs.UnitNames.{stem}
@@ -45,7 +44,7 @@ named_in_lines unit inside (line ∷ more) =
 
 -- a file is read from its first section on (agenda)
 abbrev pub named_in_file : List ℕ → FileBytes → Option (List ℕ)
-named_in_file unit file = named_in_lines unit false (lines_of_text file.bytes)
+named_in_file unit file = named_in_lines unit false (readable_lines file.bytes)
 
 -- the first of a timer's files that names a unit counts (systemd 252)
 abbrev pub named_in_files : List ℕ → List FileBytes → Option (List ℕ)

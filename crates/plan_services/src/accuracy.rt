@@ -5,11 +5,12 @@ ghost use Rattle.plan_texts.specs.WholeLines.{whole_text};
 ghost use Rattle.plan_services.specs.Accuracy.{accuracy_after_file, accuracy_after_files, accuracy_after_line, accuracy_after_lines, accuracy_after_setting, conf_dirs, conf_files, conf_paths, default_accuracy, inside_after};
 ghost use Rattle.plan_units.specs.Settings.{section_name};
 
-use crate::texts::lines_at;
 use plan_spans::time_span;
 use plan_texts::whole_lines::{WholeLine, trimmed};
 use plan_tree::Tree;
-use plan_units::{Entry, UnitDir, dir_at, drop_ins_among, entries_among, section_name, setting_of};
+use plan_units::{
+    Entry, UnitDir, dir_at, drop_ins_among, entries_among, lines_at, section_name, setting_of,
+};
 use std::alloc::{AllocError, Global};
 
 /// One minute, in microseconds.

@@ -3,15 +3,13 @@
 ghost use Rattle.std.specs.Prelude.{◌≡◌, ◌==◌, not, true, IfOk, length, map};
 ghost use Rattle.plan_texts.specs.WholeLines.{whole_text};
 ghost use Rattle.plan_services.specs.Commands.{action_after, after_file, after_files, after_line_by, after_lines, after_service_setting, after_setting, after_unit_setting, can_start, commands_of, has_value, is_idle, is_oneshot, no_commands, section_after, section_of, truth_after, type_after};
-ghost use Rattle.plan_services.specs.Texts.{lines_at};
 ghost use Rattle.plan_services.specs.declared.commands.Section.TheVariants as section;
-ghost use Rattle.plan_units.specs.Settings.{section_name, setting_of};
+ghost use Rattle.plan_units.specs.Settings.{lines_at, section_name, setting_of};
 
-use crate::texts::lines_at;
 use plan_spans::boolean;
 use plan_texts::whole_lines::{WholeLine, trimmed};
 use plan_tree::Tree;
-use plan_units::{Entry, Unit, UnitDir, drop_ins, section_name, setting_of};
+use plan_units::{Entry, Unit, UnitDir, drop_ins, lines_at, section_name, setting_of};
 use std::alloc::{AllocError, Global};
 
 // The type of a service.

@@ -5,9 +5,8 @@ ghost use Rattle.plan_texts.specs.WholeLines.{whole_text};
 ghost use Rattle.plan_services.specs.Started.{inside_after, named_in_file, named_in_files, named_in_lines, named_in_setting, other_than, service_of, started_unit, unit_in_line};
 ghost use Rattle.plan_units.specs.Settings.{section_name};
 
-use crate::texts::lines_of_text;
 use plan_parts::Part;
-use plan_texts::whole_lines::{WholeLine, trimmed};
+use plan_texts::whole_lines::{WholeLine, readable_lines, trimmed};
 use plan_timers::TimerSource;
 use plan_tree::Name;
 use plan_units::{name_of_word, section_name, setting_of, stem};
@@ -57,7 +56,7 @@ fn named_in_files(alloc: Global, unit: &str, files: &[Part]) -> Result<Option<Na
 fn named_in_file(alloc: Global, unit: &str, file: &Part) -> Result<Option<Name>, AllocError>
     ensures { IfOk result (λ named. named ≡ named_in_file unit.now file.now) }
 {
-    let lines = lines_of_text(alloc, file.bytes())?;
+    let lines = readable_lines(alloc, file.bytes())?;
     named_in_lines(alloc, unit, lines.as_slice())
 }
 

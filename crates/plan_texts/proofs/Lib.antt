@@ -1,6 +1,7 @@
-pub mod TextLemmas
 pub mod CutLemmas
-pub mod NumberLemmas
 pub mod LinesLemmas
-pub mod WholeLinesLemmas
+pub mod NumberLemmas
+pub mod ReadableLemmas
+pub mod TextLemmas
 pub mod Utf8Lemmas
+pub mod WholeLinesLemmas

@@ -1,12 +1,12 @@
 -- The whole lines of a unit file (systemd.syntax(7)): its lines without the comments, where a line that ends in a
 -- backslash is merged with the next line. A whole line is the number of its first line, from 1, and its text.
-use Rattle.std.specs.Prelude.{ℕ, ◌-◌, ◌%◌, Bool, not, ◌||◌, ◌==◌, if◌then◌else◌, List, [], ◌∷◌, ◌++◌, length, take, filter, map, string_bytes}
+use Rattle.std.specs.Prelude.{ℕ, ◌-◌, ◌%◌, Bool, not, ◌||◌, ◌==◌, if◌then◌else◌, List, [], ◌∷◌, ◌++◌, length, take, take_while, filter, map, string_bytes}
 use Rattle.std.specs.List.{suffix_len, enumerate_from}
-use Rattle.std.specs.Str.{byte}
+use Rattle.std.specs.Str.{byte, is_utf8}
 use Rattle.std.specs.Str.Lines.{strip_carriage_return}
 use Rattle.plan_texts.specs.declared.whole_lines.WholeLine.{WholeLine}
 use Rattle.plan_texts.specs.Text.{is_blank, begins_with}
-use Rattle.plan_texts.specs.Lines.{lines, after_blanks}
+use Rattle.plan_texts.specs.Lines.{is_too_large, lines, after_blanks}
 
 -- ---- one line
 
@@ -50,6 +50,14 @@ joined (line ∷ more) = with_line line (joined more)
 -- the whole lines of a unit file's text
 unfoldable pub whole_lines : List ℕ → List (ℕ × List ℕ)
 whole_lines text = joined (numbered_texts (lines text))
+
+-- whole lines up to the first that isn't UTF-8, where systemd stops reading (systemd 252)
+abbrev pub before_bad : List (ℕ × List ℕ) → List (ℕ × List ℕ)
+before_bad whole = take_while (λ line. is_utf8 line.1) whole
+
+-- the whole lines that are read of a unit file's bytes; of a text that is too large there are none (agenda)
+unfoldable pub readable_lines : List ℕ → List (ℕ × List ℕ)
+readable_lines text = if is_too_large text then [] else before_bad (whole_lines text)
 
 -- ---- blanks at both ends
 

@@ -6,7 +6,7 @@ ghost use Rattle.std.specs.Option.{option_map};
 ghost use Rattle.plan_texts.specs.Text.{is_blank};
 ghost use Rattle.plan_texts.specs.Lines.{is_too_large, lines, written, with_newline, HasNoNewline, after_blanks, cut_word};
 
-use crate::parts::is_blank;
+use crate::parts::{is_blank, pieces};
 use std::alloc::{AllocError, Global};
 
 /// The maximum size of a text of lines, in bytes.
@@ -44,8 +44,21 @@ pub fn lines(alloc: Global, text: &str) -> Result<Vec<&str>, AllocError>
     Ok(lines)
 }
 
+// Returns the lines of bytes, without their newlines.
+#[tactic(auto, unfolding(crate::specs::Lines::lines))]
+pub(crate) fn byte_lines(alloc: Global, text: &[u8]) -> Result<Vec<&[u8]>, AllocError>
+    ensures value { IfOk result (λ found. map (λ line. line.now) found.items ≡ lines text.now) }
+    ensures few { IfOk result (λ found. length found.items ≤ length text.now) }
+{
+    let mut lines = pieces(alloc, text, b'\n')?;
+    if lines.last().is_some_and(|last| last.is_empty()) {
+        lines.pop();
+    }
+    Ok(lines)
+}
+
 // Returns how many blanks a text begins with.
-fn blanks_in_front(text: &[u8]) -> usize
+pub(crate) fn blanks_in_front(text: &[u8]) -> usize
     ensures { result ≡ prefix_len is_blank text.now }
 {
     text.iter().take_while(|byte| is_blank(**byte)).count()

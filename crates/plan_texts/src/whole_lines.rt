@@ -5,9 +5,9 @@ ghost use Rattle.std.specs.List.{suffix_len};
 ghost use Rattle.std.specs.Option.{option_map};
 ghost use Rattle.plan_texts.specs.Limits.{most_bytes};
 ghost use Rattle.plan_texts.specs.Text.{is_blank};
-ghost use Rattle.plan_texts.specs.WholeLines.{line_text, is_comment, is_joined, numbered_texts, joined, whole_lines, trimmed, whole_text};
+ghost use Rattle.plan_texts.specs.WholeLines.{before_bad, line_text, is_comment, is_joined, numbered_texts, joined, readable_lines, whole_lines, trimmed, whole_text};
 
-use crate::lines::{after_blanks, lines};
+use crate::lines::{after_blanks, blanks_in_front, byte_lines, is_too_large, lines};
 use crate::parts::is_blank;
 use std::alloc::{AllocError, Global};
 
@@ -52,6 +52,54 @@ fn joined(alloc: Global, lines: &[&str]) -> Result<Vec<WholeLine>, AllocError>
         joiner.add(alloc, place as u32 + 1, line)?;
     }
     joiner.end()
+}
+
+/// Returns the whole lines of the bytes of a unit file, up to the first that isn't UTF-8: systemd stops reading there.
+/// Comments may have any bytes. A text of more than 1,048,576 bytes has none.
+///
+/// # Errors
+///
+/// `AllocError` if an allocation fails.
+#[tactic(auto, unfolding(crate::specs::WholeLines::readable_lines, crate::specs::WholeLines::whole_lines))]
+pub fn readable_lines(alloc: Global, text: &[u8]) -> Result<Vec<WholeLine>, AllocError>
+    ensures { IfOk result (λ whole. map whole_text whole.items ≡ readable_lines text.now) }
+{
+    if is_too_large(text) {
+        return Ok(Vec::new(alloc));
+    }
+    let lines = byte_lines(alloc, text)?;
+    joined_bytes(alloc, lines.as_slice())
+}
+
+// Merges lines into whole lines, up to the first whole line that isn't UTF-8.
+fn joined_bytes(alloc: Global, lines: &[&[u8]]) -> Result<Vec<WholeLine>, AllocError>
+    requires { length lines.now ≤ most_bytes }
+    ensures { IfOk result (λ whole. map whole_text whole.items
+        ≡ before_bad (joined (numbered_texts (map (λ line. line.now) lines.now)))) }
+{
+    let mut joiner = Joiner {
+        whole: Vec::new(alloc),
+        open: None,
+    };
+    for (place, line) in lines.iter().enumerate() {
+        match str::from_utf8(line) {
+            Ok(line) => joiner.add(alloc, place as u32 + 1, line)?,
+            Err(_) if is_comment_line(line) => {}
+            Err(_) => return Ok(joiner.whole),
+        }
+    }
+    joiner.end()
+}
+
+// Returns whether a line, with its blanks, is a comment.
+fn is_comment_line(line: &[u8]) -> bool
+    ensures { result ≡ is_comment (line_text line.now) }
+{
+    let line = match line {
+        [front @ .., b'\r'] => front,
+        _ => line,
+    };
+    matches!(&line[blanks_in_front(line)..], [b'#' | b';', ..])
 }
 
 /// Returns a text without the blanks at both ends.

@@ -2,9 +2,8 @@
 use Rattle.std.specs.Prelude.{ℕ, ◌-◌, Bool, false, ◌&&◌, ◌||◌, ◌==◌, nat_lt, if◌then◌else◌, List, [], ◌∷◌, ◌++◌, length, slice_index, slice_range, Option, None, Some, codes}
 use Rattle.std.specs.List.{after_first, before_first, cons_option, position_or_len}
 use Rattle.std.specs.Str.{byte, bytes_eq, is_utf8}
-use Rattle.plan_texts.specs.Lines.{is_too_large}
 use Rattle.plan_texts.specs.Text.{begins_with, words}
-use Rattle.plan_texts.specs.WholeLines.{trimmed, whole_lines}
+use Rattle.plan_texts.specs.WholeLines.{readable_lines, trimmed}
 use Rattle.plan_tree.specs.Contents.{contents_of}
 use Rattle.plan_tree.specs.Tree.{Held}
 use Rattle.plan_parts.specs.Specifiers.{expanded}
@@ -62,17 +61,15 @@ names_of_lines unit inside (line ∷ more) =
     (if inside then names_of_setting unit (setting_of (trimmed line.1)) else [])
     ++ names_of_lines unit (inside_after inside (section_name (trimmed line.1))) more
 
--- the names in the text of a file; one that is too large or isn't UTF-8 names none (agenda)
-abbrev pub names_of_text : List ℕ → List ℕ → List (List ℕ)
-names_of_text unit text =
-    if is_too_large text then [] else
-    if is_utf8 text then names_of_lines unit false (whole_lines text) else
-    []
+-- the whole lines of a file that was read (systemd.syntax(7))
+abbrev pub lines_of_found : Option (List ℕ) → List (ℕ × List ℕ)
+lines_of_found None = []
+lines_of_found (Some text) = readable_lines text
 
-abbrev pub names_of_found : List ℕ → Option (List ℕ) → List (List ℕ)
-names_of_found unit None = []
-names_of_found unit (Some text) = names_of_text unit text
+-- the whole lines of the file where a path leads; one that can't be read has none (agenda)
+abbrev pub lines_at : Held → List ℕ → List (ℕ × List ℕ)
+lines_at held path = lines_of_found (contents_of held path)
 
--- the names that a file of a unit writes, by its path; one that can't be read writes none (agenda)
+-- the names that a file of a unit writes, by its path
 abbrev pub set_names : Held → List ℕ → List ℕ → List (List ℕ)
-set_names held unit path = names_of_found unit (contents_of held path)
+set_names held unit path = names_of_lines unit false (lines_at held path)

@@ -24,7 +24,7 @@ pub use merging::{Entry, entries_among, names_at};
 pub use names::{stem, template_of, wanted_name};
 pub use paths::{UnitDir, dir_at, dirs_at, read_dir, search_path};
 pub use reach::{Wants, add_new, reached};
-pub use settings::{name_of_word, section_name, setting_of};
+pub use settings::{lines_at, name_of_word, section_name, setting_of};
 pub use timers::{boot_timers, is_timer};
 pub use unit::{Unit, unit_of};
 pub use unit_dirs::names_of_dirs;

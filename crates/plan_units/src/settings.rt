@@ -4,13 +4,13 @@ ghost use Rattle.std.specs.Prelude.{◌≡◌, false, true, IfOk, None, if◌the
 ghost use Rattle.std.specs.Option.{option_map};
 ghost use Rattle.std.specs.Str.{is_utf8};
 ghost use Rattle.plan_texts.specs.WholeLines.{whole_text};
-ghost use Rattle.plan_units.specs.Settings.{inside_after, is_wanting, name_of_word, names_of_found, names_of_lines, names_of_setting, names_of_text, names_of_words, section_name, set_names, setting_of};
+ghost use Rattle.plan_units.specs.Settings.{inside_after, is_wanting, lines_at, lines_of_found, name_of_word, names_of_lines, names_of_setting, names_of_words, section_name, set_names, setting_of};
 ghost use Rattle.plan_units.specs.Validity.{wanted_unit};
 
 use crate::validity::wanted_unit;
 use plan_parts::expanded;
-use plan_texts::lines::{MOST_BYTES, is_too_large};
-use plan_texts::whole_lines::{WholeLine, trimmed, whole_lines};
+use plan_texts::lines::MOST_BYTES;
+use plan_texts::whole_lines::{WholeLine, readable_lines, trimmed};
 use plan_texts::words;
 use plan_tree::{Name, Tree, contents};
 use std::alloc::{AllocError, Global};
@@ -25,38 +25,33 @@ pub(crate) fn set_names<T: Tree>(
     ensures { T.is_known ≡ true → IfOk result (λ names.
         names.items ≡ set_names (T.held tree.now) unit.now path.now) }
 {
-    let found = contents(alloc, tree, path, MOST_BYTES as u64 + 1)?;
-    names_of_found(alloc, unit, found)
+    let lines = lines_at(alloc, tree, path)?;
+    names_of_lines(alloc, unit, lines.as_slice())
 }
 
-// Returns the names of the units that the text of the file of a unit wants, if there is one.
-fn names_of_found(
-    alloc: Global,
-    unit: &str,
-    found: Option<Vec<u8>>,
-) -> Result<Vec<Name>, AllocError>
-    ensures { IfOk result (λ names.
-        names.items ≡ names_of_found unit.now (option_map (λ text. text.items) found)) }
+/// Returns the whole lines of the file where a path leads, up to the first that isn't UTF-8; none if it is too large or can't
+/// be read.
+///
+/// # Errors
+///
+/// `AllocError` if an allocation fails.
+pub fn lines_at<T: Tree>(alloc: Global, tree: &T, path: &str) -> Result<Vec<WholeLine>, AllocError>
+    ensures { T.is_known ≡ true → IfOk result (λ lines.
+        map whole_text lines.items ≡ lines_at (T.held tree.now) path.now) }
+{
+    let found = contents(alloc, tree, path, MOST_BYTES as u64 + 1)?;
+    lines_of_found(alloc, found)
+}
+
+// Returns the whole lines of what was read, if anything was.
+fn lines_of_found(alloc: Global, found: Option<Vec<u8>>) -> Result<Vec<WholeLine>, AllocError>
+    ensures { IfOk result (λ lines. map whole_text lines.items
+        ≡ lines_of_found (option_map (λ text. text.items) found)) }
 {
     match found {
         None => Ok(Vec::new(alloc)),
-        Some(text) => names_of_text(alloc, unit, text.as_slice()),
+        Some(text) => readable_lines(alloc, text.as_slice()),
     }
-}
-
-// Returns the names of the units that the text of the file of a unit wants.
-#[tactic(auto, using(plan_texts::proofs::Utf8Lemmas::yes_utf8, plan_texts::proofs::Utf8Lemmas::no_utf8))]
-fn names_of_text(alloc: Global, unit: &str, text: &[u8]) -> Result<Vec<Name>, AllocError>
-    ensures { IfOk result (λ names. names.items ≡ names_of_text unit.now text.now) }
-{
-    if is_too_large(text) {
-        return Ok(Vec::new(alloc));
-    }
-    let Ok(text) = str::from_utf8(text) else {
-        return Ok(Vec::new(alloc));
-    };
-    let lines = whole_lines(alloc, text)?;
-    names_of_lines(alloc, unit, lines.as_slice())
 }
 
 // Returns the names in the sections `[Unit]` of whole lines.

@@ -4,9 +4,9 @@ use Rattle.std.proofs.lemmas.Result.{IfOk-weaker}
 use Rattle.std.specs.Option.{option_map}
 use Rattle.plan_texts.specs.WholeLines.{whole_text}
 use Rattle.plan_tree.specs.Contents.{contents_of}
-use Rattle.plan_services.specs.Texts.{lines_at, lines_of_found}
-use Rattle.plan_services.proofs.TextLemmas.{front_of_found}
-use Rattle.plan_services.proofs.texts.lines_at.Goals as goal
+use Rattle.plan_units.specs.Settings.{lines_at, lines_of_found}
+use Rattle.plan_units.proofs.TextLemmas.{front_of_found}
+use Rattle.plan_units.proofs.settings.lines_at.Goals as goal
 
 pub returns : goal.returns
 returns g c = λ known.
