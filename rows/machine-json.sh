@@ -35,6 +35,7 @@ C/p=@daily\x20root\x20a\n|upcoming --utc --after 2024-03-31T00:00:00Z|{"start":"
 C/p=#\x20x\nA=b\n\n@daily\x20root\x20a\n|upcoming --utc --after 2024-03-31T00:00:00Z|{"start":"2024-04-01T00:00:00Z","job":"p:4","path":"root/etc/cron.d/p","line":4,"user":"root","run":"a"}|
 etc/crontab=@daily\x20root\x20a\n|upcoming --utc --after 2024-03-31T00:00:00Z|{"start":"2024-04-01T00:00:00Z","job":"system:1","path":"root/etc/crontab","line":1,"user":"root","run":"a"}|
 S/u=\n@daily\x20a\n|upcoming --utc --after 2024-03-31T00:00:00Z|{"start":"2024-04-01T00:00:00Z","job":"u:2","path":"root/var/spool/cron/crontabs/u","line":2,"run":"a"}|
+S/"A\\b"=@daily\x20a\n|upcoming --utc --after 2024-03-31T00:00:00Z|{"start":"2024-04-01T00:00:00Z","job":"\"A\\b\":1","path":"root/var/spool/cron/crontabs/\"A\\b\"","line":1,"run":"a"}|
 T/u=@daily\x20a\n|upcoming --utc --after 2024-03-31T00:00:00Z|{"start":"2024-04-01T00:00:00Z","job":"u:1","path":"root/var/spool/cron/tabs/u","line":1,"run":"a"}|
 C/p=x\n@daily\x20root\x20a\n|upcoming --utc --after 2024-03-31T00:00:00Z||agenda: not planned: root/etc/cron.d/p: cron ignores this file because of line 1;root/etc/cron.d/p:1: error: expected NAME=VALUE, or five fields and a command [BadSetting]
 C/p=@reboot\x20root\x20a\n|upcoming --utc --after 2024-03-31T00:00:00Z|{"start":null,"job":"p:1","path":"root/etc/cron.d/p","line":1,"user":"root","run":"a"}|

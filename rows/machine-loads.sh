@@ -126,6 +126,8 @@ loads_rows <<'ROWS'
 |C/a=0\x204\x20*\x20*\x20*\x20Ann\x20x\n||not C/a:1 user 'Ann' does not exist: cron ignores this file
 |etc/passwd=ann\n\nbob:x\nann:x:one:1\nbob::7\nbob::7:\nann::7:8\n:x:8:8\n C/a=0\x204\x20*\x20*\x20*\x20ann\x20x\n C/b=0\x204\x20*\x20*\x20*\x20bob\x20x\n|a:1|not C/b:1 user 'bob' does not exist: cron ignores this file
 |etc/passwd= C/a=FOUR||not C/a:1 user 'root' does not exist: cron ignores this file
+|S/ann@corp=MINE S/ann~=MINE||not S/ann@corp user 'ann@corp' does not exist: cron ignores this file,not S/ann~ user 'ann~' does not exist: cron ignores this file
+|etc/passwd=ann@corp:x:7:7\nCORP\\ann:x:8:8\nhost$:x:9:9\n S/ann@corp=MINE S/CORP\\ann=MINE S/host$=MINE S/host=MINE|CORP\ann:1 ann@corp:1 host$:1|not S/host user 'host' does not exist: cron ignores this file
 ROWS
 loads_users_of_root=$loads_users
 loads_users=

@@ -34,7 +34,8 @@ S/u=@daily\x20a\n S/t.x=@daily\x20b|00:00>t.x:1>b;00:00>u:1>a||
 C/a=@daily\x20root\x20a S/a=@daily\x20b|00:00>a:1>root a;00:00>a.user:1>b||
 T/u=@daily\x20a\n F/v=?|00:00>u:1>a||
 C/u=@daily\x20root\x20a F/u=@daily\x20b\n F/v=\n0\x206\x20*\x20*\x20*\x20c\n|00:00>u:1>root a;00:00>u.user:1>b;06:00>v:2>c||
-C/a.b=? S/a~=?|||C/a.b bad name,S/a~ bad name
+C/a.b=? S/a:=? S/a\x20b=?|||C/a.b bad name,S/a\x20b escape,S/a: bad name
+S/ann@corp=@daily\x20a S/CORP\\ann=0\x201\x20*\x20*\x20*\x20b S/host$=@daily\x20c\n\n@daily\x20d|00:00>ann@corp:1>a;00:00>host$:1>c;00:00>host$:3>d;01:00>CORP\ann:1>b||
 *a.timer U/a.timer=[Timer]\nOnCalendar=daily\n|00:00>a.timer>a.service||
 *a.timer U/a.timer=[Timer]\nOnCalendar=daily E/a.timer.d/x.conf=[Timer]\nOnCalendar=\nOnCalendar=3:00|03:00>a.timer>a.service||
 *a.timer U/a.timer=[Timer]\nOnCalendar=daily\n E/a.timer.d/x.conf=OnCalendar=3:00|00:00>a.timer>a.service||
@@ -136,7 +137,7 @@ runs_locked() {
 if machine_as_nobody && "${machine_by[@]}" "$machine_folder/whole/agenda" --version >/dev/null 2>&1; then
   runs_locked <<'ROWS'
 etc/crontab C/a S/b *a.timer U/a.timer=DAILY *b.timer U/b.timer|etc/crontab C/a S/b U/b.timer|etc/crontab not readable,C/a not readable,S/b not readable,U/b.timer not readable,quiet 4
-C/a.b S/a~|C/a.b S/a~|C/a.b bad name,S/a~ bad name
+C/a.b S/a: S/a\x20|C/a.b S/a: S/a\x20|C/a.b bad name,S/a\x20 escape,S/a: bad name,quiet 1
 C/a S/a S/a.user|S/a|S/a not readable,quiet 1
 *a@b.timer *a@c.timer U/a@.timer|U/a@.timer|U/a@.timer not readable,quiet 1
 *a.timer E/a.timer= U/a.timer|E/a.timer|E/a.timer masked

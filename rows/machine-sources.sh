@@ -32,7 +32,10 @@ ROWS
 program_sources <<'ROWS'
 C/a.b C/c|C/c|C/a.b bad name
 C/a~ C/a\x20b C/\x20 C/a# C/\xc3\xa0 C/a@ C/* C/a:||C/\x20 bad name,C/* bad name,C/a\x20b bad name,C/a# bad name,C/a: bad name,C/a@ bad name,C/a~ bad name,C/\xc3\xa0 bad name
-S/a~ S/a\x20b S/a\\b S/a,b S/? S/c|S/c|S/? bad name,S/a\x20b bad name,S/a\x2cb bad name,S/a\\b bad name,S/a~ bad name
+S/a~ S/a\x20b S/a\\b S/a,b S/? S/c|S/? S/a,b S/a\\b S/a~ S/c|S/a\x20b escape
+S/ann@corp S/CORP\\ann S/host$ S/"a' S/-a S/[1] S/%s S/#|S/"a' S/# S/%s S/-a S/CORP\\ann S/[1] S/ann@corp S/host$|
+S/a:1 S/: S/a: S/a\x09:||S/: bad name,S/a\x09: bad name,S/a: bad name,S/a:1 bad name
+S/\x20 S/a\x09b S/a\x7f S/\xc3\xa0 S/\xc2\xa0 S/\xe2\x80\x8b||S/\x20 escape,S/a\x09b escape,S/a\x7f escape,S/\xc2\xa0 escape,S/\xc3\xa0 escape,S/\xe2\x80\x8b escape
 C/a/ C/b!||C/a not readable,C/b not readable
 S/a/ S/b!||S/a not readable,S/b not readable
 etc/crontab/||etc/crontab not readable
@@ -42,7 +45,8 @@ etc/crontab>/dev/null||etc/crontab not readable
 etc/crontab>/dev/null dev/null=x||etc/crontab not readable
 C/a>nowhere C/b>/dev/null C/c>c C/d>e C/e>d C/f>/opt opt/x||C/a not readable,C/b not readable,C/c not readable,C/d not readable,C/e not readable,C/f not readable
 S/a>nowhere S/b>/dev/null S/c>c||S/a not readable,S/b not readable,S/c not readable
-C/a.b/ C/c.d>nowhere C/e~! S/a~/ S/b~>nowhere||C/a.b bad name,C/c.d bad name,C/e~ bad name,S/a~ bad name,S/b~ bad name
+C/a.b/ C/c.d>nowhere C/e~! S/a:/ S/b:>nowhere S/c\x20/||C/a.b bad name,C/c.d bad name,C/e~ bad name,S/a: bad name,S/b: bad name,S/c\x20 escape
+S/a~/ S/b@>nowhere||S/a~ not readable,S/b@ not readable
 etc/cron.d||etc/cron.d not readable
 etc/cron.d>nowhere||etc/cron.d not readable
 etc/cron.d>cron.d||etc/cron.d not readable
@@ -77,11 +81,11 @@ program_sources <<'ROWS'
 T/a T/b.c etc/crontab|etc/crontab T/a T/b.c|
 T/a F/b|T/a|
 T/ F/b||
-T/.a T/a~ T/b T/c/|T/b|T/a~ bad name,T/c not readable
+T/.a T/a~ T/b T/c/ T/d:|T/a~ T/b|T/c not readable,T/d: bad name
 C/a T/a|C/a T/a=a.user|
 C/a T/a T/a.user|C/a T/a.user|T/a name taken
 F/a F/b.c etc/crontab|etc/crontab F/a F/b.c|
-F/root F/.b F/c~ F/d#e|F/root|F/c~ bad name,F/d#e bad name
+F/root F/.b F/c~ F/d#e F/f:g F/h\x20i|F/c~ F/d#e F/root|F/f:g bad name,F/h\x20i escape
 F/a F/atjobs/.SEQ F/atspool/x F/lastrun/cron.daily F/b~/|F/a|
 C/a F/a|C/a F/a=a.user|
 C/a F/a F/a.user|C/a F/a.user|F/a name taken

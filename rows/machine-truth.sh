@@ -201,6 +201,7 @@ etc/anacrontab F/atjobs/a root/.config/systemd/user/a.timer S/u=30\x2012\x20*\x2
 ROWS
 
 # What can't be read may hold any job, and a name that agenda can't use may be that of one. What cron and systemd skip by its name holds none.
+# The crontab of a user is planned whatever name the user has.
 truth_clear <<'ROWS'
 C/a/|12:00:00-13:00:00||||C/a not readable,clear 1|4
 C/a/|12:00:00-13:00:00|--except root/etc/cron.d/a|||C/a not readable|0
@@ -215,6 +216,12 @@ C/\xff|12:00:00-13:00:00|--except root/etc/cron.d|||etc/cron.d a name that isn't
 etc/crontab C/system|12:00:00-13:00:00||||C/system name taken,clear 1|4
 etc/crontab C/system|12:00:00-13:00:00|--except root/etc/cron.d/system|||C/system name taken|0
 C/a.b=x\n|12:00:00-13:00:00||||C/a.b bad name|0
+S/a:b=x\n|12:00:00-13:00:00||||S/a:b bad name|0
+S/a\x20b=x\n|12:00:00-13:00:00||||S/a\x20b escape,clear 1|4
+S/\xc3\xa0=x\n|12:00:00-13:00:00|--except root/var/spool/cron/crontabs/à|||S/\xc3\xa0 escape|0
+S/ann@corp=30\x2012\x20*\x20*\x20*\x20x\n|12:00:00-13:00:00||2024-01-01T12:30:00+00:00>2024-01-01T12:30:00+00:00>ann@corp:1>x|||1
+S/ann@corp=30\x2012\x20*\x20*\x20*\x20x\n S/CORP\\ann=31\x2012\x20*\x20*\x20*\x20x\n|12:00:00-13:00:00|--except ann@*|2024-01-01T12:31:00+00:00>2024-01-01T12:31:00+00:00>CORP\ann:1>x|||1
+S/ann@corp=30\x2012\x20*\x20*\x20*\x20x\n S/CORP\\ann=31\x2012\x20*\x20*\x20*\x20x\n|12:00:00-13:00:00|--except ann@corp:1 --except CORP\ann||||0
 D/b.timer|12:00:00-13:00:00||||D/b.timer no link|0
 *f.timer|12:00:00-13:00:00||||D/f.timer no such timer|0
 ROWS

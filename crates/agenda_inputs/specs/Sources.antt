@@ -1,5 +1,5 @@
 -- The sources of a plan, by the given paths. All of it is our choice (agenda).
-use Rattle.std.specs.Prelude.{◌≡◌, Bool, true, false, Option, None, Some, List, [], ◌∷◌, ◌++◌, Ok, Err}
+use Rattle.std.specs.Prelude.{◌≡◌, ℕ, Bool, true, false, if◌then◌else◌, is_none, Option, None, Some, List, [], ◌∷◌, ◌++◌, Ok, Err}
 use Rattle.agenda_sources.specs.declared.Asked.{Asked}
 use Rattle.agenda_sources.specs.declared.Source.{Source}
 use Rattle.agenda_sources.specs.declared.TimeZones.{TimeZones}
@@ -9,17 +9,25 @@ use Rattle.agenda_sources.specs.ZoneNames.{asked_zones, zone_names}
 use Rattle.agenda_arguments.specs.declared.ZonesRequest.{ZonesRequest}
 use Rattle.agenda_faults.specs.declared.faults.Failure.TheVariants.{File, Run}
 use Rattle.agenda_faults.specs.declared.faults.RunFault.TheVariants.{NoMemory}
+use Rattle.plan_rules.specs.declared.SourceKind.{SourceKind}
+use Rattle.plan_rules.specs.declared.SourceKind.TheVariants.{Spool}
+use Rattle.plan_rules.specs.SourceKind.{name_cause}
 use Rattle.agenda_inputs.specs.declared.sources.Tried.{Tried}
 use Rattle.agenda_inputs.specs.EventZones.{time_zones}
 use Rattle.agenda_inputs.specs.Files.{Held, IsUnsure, front_of}
 use Rattle.agenda_inputs.specs.Steps.{Step, gives, ◌>>=◌}
 use Rattle.agenda_inputs.specs.Zone.{clock_of}
 
+-- the name of a source, by that of its file; a user's crontab has none if `--spool` doesn't take the file's name (agenda)
+abbrev pub name_by : SourceKind → (name : List ℕ) → List ℕ
+name_by Spool name = if is_none (name_cause Spool name) then name else []
+name_by kind name = name
+
 -- a source is read, with its kind and its name
 abbrev pub source_of : Held → SourcePath → Step Source
 source_of held given = do
   bytes ← front_of (held given.path) (File given.path)
-  gives (record { kind = given.kind; name = file_name given.path; bytes = bytes })
+  gives (record { kind = given.kind; name = name_by given.kind (file_name given.path); bytes = bytes })
 
 -- a source is tried. If the request keeps going, there is none if its file may fail
 abbrev pub tried_of : (keeps_going : Bool) → Held → SourcePath → Step (Option Source)

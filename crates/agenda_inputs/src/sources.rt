@@ -2,7 +2,7 @@
 
 ghost use Rattle.std.specs.Prelude.{◌≡◌, ◌≢◌, [], ◌∷◌, ◌++◌, Err, IfErr, IfOk, List, OnOk, true};
 ghost use Rattle.agenda_inputs.specs.Opened.{OpensFirst, clock_files, event_files, followed_by, input_files, source_files};
-ghost use Rattle.agenda_inputs.specs.Sources.{input_of, rule_zones, source_of, tried_of, tries_of, with_last};
+ghost use Rattle.agenda_inputs.specs.Sources.{input_of, name_by, rule_zones, source_of, tried_of, tries_of, with_last};
 ghost use Rattle.agenda_faults.specs.declared.faults.Failure.TheVariants.{Run};
 ghost use Rattle.agenda_faults.specs.declared.faults.RunFault.TheVariants.{NoMemory};
 ghost use Rattle.agenda_sources.specs.ZoneNames.{asked_zones};
@@ -14,7 +14,7 @@ use crate::zone::read_clock;
 use agenda_arguments::ZonesRequest;
 use agenda_faults::Failure;
 use agenda_sources::{Asked, Source, SourcePath, SourcePaths, Sources, TimeZones, file_name};
-use plan_rules::Text;
+use plan_rules::{SourceKind, Text};
 use std::alloc::{AllocError, Global};
 
 /// Sources, some of which can't be read.
@@ -169,6 +169,17 @@ fn copy_of(alloc: Global, given: &SourcePath) -> Result<SourcePath, AllocError>
     })
 }
 
+// Returns the name of a source by that of its file. A user's crontab has an empty one if `--spool` doesn't take the file's name:
+// that is an error of each file of that kind.
+fn name_by(kind: SourceKind, name: &str) -> &str
+    ensures { result.now ≡ name_by kind name.now }
+{
+    match kind {
+        SourceKind::Spool if kind.name_cause(name).is_some() => "",
+        _ => name,
+    }
+}
+
 // Reads a source. Its name comes from its path.
 fn read_source<F: Files>(
     alloc: Global,
@@ -181,7 +192,10 @@ fn read_source<F: Files>(
     ensures first { OpensFirst (given.now.path ∷ []) (F.opened files.old) (F.opened files.new) }
 {
     let bytes = read_path(alloc, files, given.path.as_str())?;
-    let name = Text::new(String::from_str(alloc, file_name(given.path.as_str()))?);
+    let name = Text::new(String::from_str(
+        alloc,
+        name_by(given.kind, file_name(given.path.as_str())),
+    )?);
     Ok(Source {
         kind: given.kind,
         name,

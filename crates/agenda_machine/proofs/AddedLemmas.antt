@@ -15,7 +15,7 @@ use Rattle.plan_check.specs.declared.FindingKind.TheVariants.{Rejected, SameName
 use Rattle.plan_check.specs.declared.TimerContext.{TimerContext}
 use Rattle.plan_check.specs.Crontabs.{after_crontab, after_line, after_lines, crontab_findings, line_findings, lines_findings}
 use Rattle.plan_check.specs.CronWarnings.{end_warnings, is_first, place_warnings}
-use Rattle.plan_check.specs.Files.{after_file, after_text, file_findings, in_file, name_findings, text_findings}
+use Rattle.plan_check.specs.Files.{after_file, after_text, file_cause, file_findings, in_file, name_findings, text_findings}
 use Rattle.plan_check.specs.Finding.{finding_at, found_if}
 use Rattle.plan_check.specs.Known.{KnownJobs, after_job, after_other, has_room, is_taken, job_findings, name_quote, with_jobs}
 use Rattle.plan_check.specs.TimerWarnings.{timer_warnings}
@@ -36,7 +36,6 @@ use Rattle.plan_rules.specs.Job.{JobParts}
 use Rattle.plan_rules.specs.Jobs.{is_named}
 use Rattle.plan_rules.specs.Limits.{most_jobs}
 use Rattle.plan_rules.specs.LineFaults.{LineReading, TextReading}
-use Rattle.plan_rules.specs.SourceKind.{name_cause}
 use Rattle.plan_rules.specs.Timer.{has_timer, is_timer_name}
 use Rattle.plan_rules.specs.TimerEntries.{no_lines, timer_lines}
 use Rattle.plan_runs.specs.declared.IdleJob.{IdleJob}
@@ -379,7 +378,7 @@ text_same known context Timer name bytes = timer_same known context name (timer_
 
 -- whether a source's file has a good name
 abbrev pub is_good : Source → Bool
-is_good source = is_none (name_cause source.kind source.name)
+is_good source = is_none (file_cause source.kind source.name)
 
 abbrev pub source_adds : TimerContext → Held → Source → List Add
 source_adds context held source = cond (is_good source) (text_adds context held source.kind source.name source.bytes) []

@@ -10,10 +10,10 @@ use Rattle.agenda_machine.specs.JobFiles.{label_of}
 use Rattle.agenda_machine.specs.Loaded.{planned_sources}
 use Rattle.plan_check.specs.declared.FindingKind.{FindingKind}
 use Rattle.plan_check.specs.declared.FindingKind.TheVariants.{Rejected, SameName, Full, Warned, Denied}
+use Rattle.plan_check.specs.Files.{file_cause}
 use Rattle.plan_machine.specs.declared.machine.Machine.{Machine}
 use Rattle.plan_rules.specs.Crontab.{job_name}
 use Rattle.plan_rules.specs.Jobs.{without}
-use Rattle.plan_rules.specs.SourceKind.{name_cause}
 use Rattle.plan_tree.specs.Tree.{Held}
 
 -- ---- the names
@@ -27,7 +27,7 @@ idle_names_if true held source =
 -- the names of the idle jobs of sources, each from its label and its line
 abbrev pub idle_names : Held → List Source → List (List ℕ)
 idle_names held sources =
-    flat_map (λ source. idle_names_if (is_none (name_cause source.kind source.name)) held source) sources
+    flat_map (λ source. idle_names_if (is_none (file_cause source.kind source.name)) held source) sources
 
 -- ---- the law
 

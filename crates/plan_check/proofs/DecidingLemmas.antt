@@ -33,7 +33,7 @@ use Rattle.plan_rules.specs.Job.{JobParts}
 use Rattle.plan_rules.specs.Jobs.{number_of}
 use Rattle.plan_rules.specs.Limits.{most_events, most_jobs}
 use Rattle.plan_rules.specs.LineFaults.{LineReading, TextReading, cause_by_cause, fault_on_line, in_line, on_line}
-use Rattle.plan_rules.specs.SourceKind.{is_package_name, is_user_name, name_cause}
+use Rattle.plan_rules.specs.SourceKind.{is_package_name, is_user_name}
 use Rattle.plan_rules.specs.Timer.{Effect, Reset, Event, Starts, Nothing, effects_from, has_timer, is_timer_name, job_with, settings_from, timer_job, timer_setting}
 use Rattle.plan_rules.specs.TimerOptions.{Setting, delay_seconds, options_of}
 use Rattle.plan_rules.specs.declared.timer_options.TimerOptions.{TimerOptions}
@@ -48,7 +48,7 @@ use Rattle.plan_check.specs.CronWarnings.{is_first}
 use Rattle.plan_check.specs.Crontabs.{after_crontab, after_line, after_lines, crontab_findings, field_quote, line_findings, lines_findings}
 use Rattle.plan_check.specs.Deciding.{deciding, early_cause, early_fault, known_jobs, known_with, late_fault, strictly, unless_fault, with_each}
 use Rattle.plan_check.specs.Finding.{error_at, finding_at, first_of, found_if}
-use Rattle.plan_check.specs.Files.{File, after_text, alone, file_reading, jobs_of_text, name_error, text_findings, unless_named}
+use Rattle.plan_check.specs.Files.{File, after_text, alone, file_cause, file_reading, jobs_of_text, name_error, text_findings, unless_named}
 use Rattle.plan_check.specs.Known.{KnownJobs, after_other, has_room, is_taken, name_quote, with_jobs, without_warnings}
 use Rattle.plan_check.specs.Settings.{value_of}
 use Rattle.plan_check.specs.Timers as timers
@@ -253,11 +253,12 @@ name_unless : (good : Bool) (cause : LineCause) → OfLine cause → OfName (con
 name_unless true cause of = tt
 name_unless false cause of = of
 
-of_name : (kind : SourceKind) (name : List ℕ) → OfName (name_cause kind name)
+of_name : (kind : SourceKind) (name : List ℕ) → OfName (file_cause kind name)
 of_name Crontab name = tt
 of_name System name = tt
 of_name CronD name = name_unless (is_package_name name) BadTabName tt
-of_name Spool name = name_unless (is_user_name name) BadTabName tt
+of_name Spool [] = name_unless (is_user_name []) BadTabName tt
+of_name Spool (first ∷ rest) = tt
 of_name Timer name = name_unless (is_timer_name name) BadTimerName tt
 
 -- a file whose name is bad has that error, whatever its text
@@ -441,7 +442,7 @@ timer_named false context jobs name bytes good named = absurd cc
 -- ---- a file
 
 text_jobs :
-    (context : TimerContext) (jobs : List JobParts) (kind : SourceKind) (name bytes : List ℕ) → name_cause kind name ≡ None →
+    (context : TimerContext) (jobs : List JobParts) (kind : SourceKind) (name bytes : List ℕ) → file_cause kind name ≡ None →
     strict (text_findings context (known_jobs jobs) kind name bytes) (after_text context (known_jobs jobs) kind name bytes)
     ≡ known_with jobs (jobs_of_text context kind name bytes)
 text_jobs context jobs Crontab name bytes named = crontab_means jobs (codes "cron") whose.User bytes
@@ -454,6 +455,6 @@ pub law_of_readings :
     (context : TimerContext) (jobs : List JobParts) (file : File) →
     strictly context (known_jobs jobs) file ≡ known_with jobs (file_reading context file.kind file.name file.bytes)
 law_of_readings context jobs file =
-    named_means file.name (name_cause file.kind file.name) jobs (jobs_of_text context file.kind file.name file.bytes)
+    named_means file.name (file_cause file.kind file.name) jobs (jobs_of_text context file.kind file.name file.bytes)
     (λ known. text_findings context known file.kind file.name file.bytes) (λ known. after_text context known file.kind file.name file.bytes)
     (of_name file.kind file.name) (text_jobs context jobs file.kind file.name file.bytes)

@@ -18,7 +18,6 @@ use Rattle.plan_rules.specs.Crontab.{line_reading}
 use Rattle.plan_rules.specs.FileText.{text_reading}
 use Rattle.plan_rules.specs.Job.{JobParts}
 use Rattle.plan_rules.specs.LineFaults.{LineReading, TextReading}
-use Rattle.plan_rules.specs.SourceKind.{name_cause}
 use Rattle.plan_rules.specs.Timer.{has_timer, is_timer_name, timer_setting}
 use Rattle.plan_rules.specs.TimerOptions.{Setting}
 use Rattle.plan_rules.specs.TimerEntries.{LineStep, Idle, Empties, Has, Names, TimerState, line_in, no_lines, state_after, timer_lines}
@@ -28,7 +27,7 @@ use Rattle.plan_check.specs.declared.finding.Warning.TheVariants.{ZoneSetting}
 use Rattle.plan_check.specs.declared.finding.FindingKind.TheVariants.{Rejected, SameName, Full, Warned}
 use Rattle.plan_check.specs.CronWarnings.{end_warnings, is_first, place_warnings}
 use Rattle.plan_check.specs.Crontabs.{after_crontab, after_line, after_lines, crontab_findings, entry_findings, line_findings, lines_findings, reading_findings}
-use Rattle.plan_check.specs.Files.{File, after_file, after_text, file_findings, in_file, name_error, name_findings, text_findings}
+use Rattle.plan_check.specs.Files.{File, after_file, after_text, file_cause, file_findings, in_file, name_error, name_findings, text_findings}
 use Rattle.plan_check.specs.Finding.{errors_of, finding_at, found_if, is_clean, is_warning, rejected_at}
 use Rattle.plan_check.specs.Known.{KnownJobs, after_job, after_other, has_room, is_taken, job_findings, name_quote, without_warnings}
 use Rattle.plan_check.specs.Settings.{value_of}
@@ -277,7 +276,7 @@ pub file_errors :
     ≡ errors_of (file_findings context known file)
 file_errors context known file =
     let inside = in_file known file.kind file.name in
-    (λ i. name_errors file.name (name_cause file.kind file.name) i ++ text_errors context inside file.kind file.name file.bytes i)
+    (λ i. name_errors file.name (file_cause file.kind file.name) i ++ text_errors context inside file.kind file.name file.bytes i)
     ∙ sym (errors_append (name_findings file.kind file.name) (text_findings context inside file.kind file.name file.bytes))
 
 pub file_without :

@@ -58,6 +58,12 @@ jobs_of_text context CronD name bytes = crontab_reading name whose.System bytes
 jobs_of_text context Spool name bytes = crontab_reading name whose.User bytes
 jobs_of_text context Timer name bytes = alone (timer_in context name bytes)
 
+-- what is wrong with the name of a file of this kind. The crontab of a user may have any name but an empty one: users of a machine have
+-- other names than `--spool` takes (agenda)
+abbrev pub file_cause : SourceKind → (name : List ℕ) → Option LineCause
+file_cause Spool (first ∷ rest) = None
+file_cause kind name = name_cause kind name
+
 -- this reading, unless something is wrong with the file's name
 abbrev pub unless_named : Option LineCause → TextReading (List JobParts) → TextReading (List JobParts)
 unless_named None reading = reading
@@ -65,7 +71,7 @@ unless_named (Some cause) reading = on_line 0 (Err cause)
 
 -- the jobs of a file, or its first error: its name is checked first
 abbrev pub file_reading : TimerContext → SourceKind → (name bytes : List ℕ) → TextReading (List JobParts)
-file_reading context kind name bytes = unless_named (name_cause kind name) (jobs_of_text context kind name bytes)
+file_reading context kind name bytes = unless_named (file_cause kind name) (jobs_of_text context kind name bytes)
 
 -- ---- findings
 
@@ -81,11 +87,11 @@ name_error name cause = record (rejected_at 0 cause) { detail = name_detail name
 
 -- the finding of a file's name, if it is bad
 abbrev pub name_findings : SourceKind → (name : List ℕ) → List Finding
-name_findings kind name = cons_option (option_map (name_error name) (name_cause kind name)) []
+name_findings kind name = cons_option (option_map (name_error name) (file_cause kind name)) []
 
 -- what is known in a file: if its name is bad, it makes no jobs
 abbrev pub in_file : KnownJobs → SourceKind → (name : List ℕ) → KnownJobs
-in_file known kind name = with_jobs known (is_none (name_cause kind name))
+in_file known kind name = with_jobs known (is_none (file_cause kind name))
 
 -- the findings of a file's text
 abbrev pub text_findings : TimerContext → KnownJobs → SourceKind → (name bytes : List ℕ) → List Finding
@@ -120,4 +126,4 @@ bytes_cause bytes = if is_too_large bytes then Some TooLarge else (if is_utf8 by
 
 -- what is wrong with a file: its name is checked first
 abbrev pub cause_at_once : SourceKind → (name bytes : List ℕ) → Option LineCause
-cause_at_once kind name bytes = option_or (name_cause kind name) (bytes_cause bytes)
+cause_at_once kind name bytes = option_or (file_cause kind name) (bytes_cause bytes)

@@ -1,8 +1,7 @@
 //! The findings of a file, by the kind of its source.
 
 ghost use Rattle.std.specs.Prelude.{◌≡◌, ◌++◌, ◌∷◌, [], IfOk, OnOk};
-ghost use Rattle.plan_rules.specs.SourceKind.{name_cause};
-ghost use Rattle.plan_check.specs.Files.{after_file, after_text, bytes_cause, cause_at_once, file_findings, file_of, in_file, name_detail, name_error, name_findings, text_findings};
+ghost use Rattle.plan_check.specs.Files.{after_file, after_text, bytes_cause, cause_at_once, file_cause, file_findings, file_of, in_file, name_detail, name_error, name_findings, text_findings};
 
 use crate::context::TimerContext;
 use crate::crontabs::add_crontab;
@@ -23,8 +22,8 @@ const CRONTAB_HINT: &str = "for a crontab, use --crontab or --cron-d";
 /// Returns all findings of the file of a source of this kind, in order. Adds the jobs of which nothing is rejected to
 /// `known`, which has the jobs before them. Timers are read in this context.
 ///
-/// The first finding is that the name is bad: `BadTabName` or `BadTimerName`, see `SourceKind::name_cause`. A file whose
-/// name is bad makes no jobs, so it has no findings about their names. If the name of a timer doesn't end in `.timer`, the
+/// The first finding is that the name is bad: `BadTabName` or `BadTimerName`, see `SourceKind::name_cause`. But the crontab
+/// of a user may have any name that isn't empty. A file whose name is bad makes no jobs, so it has no findings about their names. If the name of a timer doesn't end in `.timer`, the
 /// message ends with how a crontab is checked. If the text has more than 1,048,576 bytes, the
 /// next finding is `TooLarge`; else, if it isn't UTF-8, it is `NotUtf8`. Such a text has no lines.
 ///
@@ -84,7 +83,17 @@ pub fn file_findings(
 pub fn cause_at_once(kind: SourceKind, name: &str, bytes: &[u8]) -> Option<LineCause>
     ensures { result ≡ cause_at_once kind name.now bytes.now }
 {
-    kind.name_cause(name).or(bytes_cause(bytes))
+    file_cause(kind, name).or(bytes_cause(bytes))
+}
+
+// Returns what is wrong with the name of a file of this kind.
+fn file_cause(kind: SourceKind, name: &str) -> Option<LineCause>
+    ensures { result ≡ file_cause kind name.now }
+{
+    match kind {
+        SourceKind::Spool if !name.is_empty() => None,
+        _ => kind.name_cause(name),
+    }
 }
 
 // Begins the file with a name, and adds what is wrong with the name.
@@ -98,7 +107,7 @@ fn add_name(
     ensures found { OnOk result (found.new.items ≡ found.old.items ++ name_findings kind name.now) }
     ensures known { known.new ≡ in_file known.old kind name.now }
 {
-    let cause = kind.name_cause(name);
+    let cause = file_cause(kind, name);
     known.begin_file(cause.is_none());
     match cause {
         Some(cause) => add_name_error(alloc, found, name, cause),

@@ -1,5 +1,5 @@
 -- No crontab has the name of an earlier one.
-use Rattle.std.proofs.Common.{◌≡◌, ℕ, Bool, true, false, ◌&&◌, cond, List, [], ◌∷◌, ◌++◌, codes, Option, None, Some, refl, sym, ◌∙◌}
+use Rattle.std.proofs.Common.{◌≡◌, ℕ, Bool, true, false, not, ◌&&◌, cond, List, [], ◌∷◌, ◌++◌, codes, Option, None, Some, refl, sym, ◌∙◌}
 use Rattle.std.proofs.lemmas.Bool.{or_parts, or_from}
 use Rattle.std.proofs.lemmas.List.Folds.{list_any-append}
 use Rattle.std.proofs.lemmas.Slice.Eq.{bytes_eq-Decides}
@@ -13,14 +13,14 @@ use Rattle.plan_tree.specs.declared.links.End.{End}
 use Rattle.plan_tree.specs.declared.links.End.TheVariants.{Unknown, Nothing, Found}
 use Rattle.plan_tree.specs.Place.{child}
 use Rattle.plan_tree.specs.Tree.{Held}
-use Rattle.plan_timers.specs.declared.reports.Why.TheVariants.{BadName, NameTaken, NotUtf8}
+use Rattle.plan_timers.specs.declared.reports.Why.TheVariants.{BadName, Escape, NameTaken, NotUtf8}
 use Rattle.plan_machine.specs.Collection.{IsEachNameOnce, Sources, is_taken, no_sources, with_file, with_skipped, with_source}
 use Rattle.plan_machine.specs.Cron.{crontabs_of, system_path, with_cron_d, with_package, with_packages, with_system, with_system_at}
 use Rattle.plan_machine.specs.Directories.{is_directory_at, is_missing, listing_in, look, names_at, with_directory, with_listing}
 use Rattle.plan_machine.specs.Files.{file_at, lead_of}
 use Rattle.plan_machine.specs.Source.{SourceParts, taken_name}
 use Rattle.plan_machine.specs.declared.spool.SpoolDir.{SpoolDir}
-use Rattle.plan_machine.specs.Spool.{cron_path, spool_name, spool_of, spool_parent, user_name, with_spool_in, with_user, with_users}
+use Rattle.plan_machine.specs.Spool.{cron_path, is_cut_name, is_graphic_name, spool_name, spool_of, spool_parent, user_name, with_spool_in, with_user, with_users}
 
 other_bytes : (one other : List ℕ) → bytes_eq one other ≡ false → bytes_eq other one ≡ false
 other_bytes one other differ =
@@ -121,10 +121,12 @@ once_with_user held most dir names all name once =
     let file : Option FileBytes = file_at held most path end in
     let given : List ℕ = user_name all.found names name in
     let named : Sources = with_file all Spool path given file in
+    let shown : Sources = cond (not (is_graphic_name name)) (with_skipped all path Escape) named in
     once_either (bytes_eq dir cron_path && is_directory_at held.node end) all
-    (cond (is_bad_name Spool name) (with_skipped all path BadName) named) once
-    (once_either (is_bad_name Spool name) (with_skipped all path BadName) named once
-    (once_with_file all Spool path given file once))
+    (cond (is_cut_name name) (with_skipped all path BadName) shown) once
+    (once_either (is_cut_name name) (with_skipped all path BadName) shown once
+    (once_either (not (is_graphic_name name)) (with_skipped all path Escape) named once
+    (once_with_file all Spool path given file once)))
 
 once_with_users :
     (held : Held) (most : ℕ) (dir : List ℕ) (names : List (List ℕ)) (all : Sources) (rest : List (List ℕ)) → IsEachNameOnce all.found →

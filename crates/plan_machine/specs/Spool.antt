@@ -1,9 +1,9 @@
 -- The crontabs of users.
-use Rattle.std.specs.Prelude.{ℕ, Bool, true, false, not, ◌&&◌, if◌then◌else◌, List, [], ◌∷◌, ◌++◌, codes}
-use Rattle.std.specs.List.{list_any}
-use Rattle.std.specs.Str.{bytes_eq}
+use Rattle.std.specs.Prelude.{ℕ, Bool, true, false, not, ◌&&◌, ◌||◌, ◌==◌, if◌then◌else◌, List, [], ◌∷◌, ◌++◌, codes}
+use Rattle.std.specs.Char.{is_ascii_graphic}
+use Rattle.std.specs.List.{list_all, list_any}
+use Rattle.std.specs.Str.{byte, bytes_eq}
 use Rattle.plan_rules.specs.declared.source_kind.SourceKind.TheVariants.{Spool}
-use Rattle.plan_machine.specs.Source.{is_bad_name}
 use Rattle.plan_tree.specs.declared.links.End.{End}
 use Rattle.plan_tree.specs.declared.links.End.TheVariants.{Unknown, Nothing, Found}
 use Rattle.plan_tree.specs.declared.tree.Node.{Node}
@@ -11,7 +11,7 @@ use Rattle.plan_tree.specs.Place.{child}
 use Rattle.plan_tree.specs.Tree.{Held}
 use Rattle.plan_machine.specs.declared.spool.SpoolDir.{SpoolDir}
 use Rattle.plan_machine.specs.declared.spool.SpoolDir.TheVariants.{Debian, Suse, Fedora}
-use Rattle.plan_timers.specs.declared.reports.Why.TheVariants.{BadName}
+use Rattle.plan_timers.specs.declared.reports.Why.TheVariants.{BadName, Escape}
 use Rattle.plan_machine.specs.Collection.{Sources, has_package, with_file, with_skipped}
 use Rattle.plan_machine.specs.Directories.{can_search, is_directory, is_directory_at, look, names_at, with_directory}
 use Rattle.plan_machine.specs.Files.{file_at, is_file, lead_of}
@@ -66,13 +66,23 @@ abbrev pub user_name : List SourceParts → (names : List (List ℕ)) → List �
 user_name sources names name =
     if has_package sources name && not (is_name_of (name ++ codes ".user") names) then name ++ codes ".user" else name
 
--- a user's crontab. Directories in var/spool/cron are ignored, such as atjobs (agenda)
+-- no user can have such a name: a colon ends a name, and a newline the line of a user (passwd(5))
+abbrev pub is_cut_name : List ℕ → Bool
+is_cut_name name = list_any (λ b. b == byte ":" || b == 10) name
+
+-- the name of a job can begin with such a name: it has no blank, no control character, and ASCII alone (agenda)
+abbrev pub is_graphic_name : List ℕ → Bool
+is_graphic_name name = list_all is_ascii_graphic name
+
+-- a user's crontab, whose name is that of the user: those that begin with `.` are no entries (cron 3.0pl1, database.c). Directories in
+-- var/spool/cron are ignored, such as atjobs (agenda)
 abbrev pub with_user : Held → (most : ℕ) → (dir : List ℕ) → (names : List (List ℕ)) → Sources → List ℕ → Sources
 with_user held most dir names all name =
     let path = child dir name in
     let end = lead_of held.node path in
     if bytes_eq dir cron_path && is_directory_at held.node end then all else
-    if is_bad_name Spool name then with_skipped all path BadName else
+    if is_cut_name name then with_skipped all path BadName else
+    if not (is_graphic_name name) then with_skipped all path Escape else
     with_file all Spool path (user_name all.found names name) (file_at held most path end)
 
 abbrev pub with_users : Held → (most : ℕ) → (dir : List ℕ) → (names : List (List ℕ)) → Sources → List (List ℕ) → Sources

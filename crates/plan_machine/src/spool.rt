@@ -4,12 +4,12 @@ ghost use Rattle.std.specs.Prelude.{◌≡◌, true, IfOk};
 ghost use Rattle.plan_rules.specs.declared.source_kind.SourceKind.TheVariants.{Spool};
 ghost use Rattle.plan_machine.specs.Collection.{with_file};
 ghost use Rattle.plan_machine.specs.Files.{file_at};
-ghost use Rattle.plan_machine.specs.Spool.{is_closed, is_name_of, is_spool, spool_name, spool_of, spool_parent, user_name, with_spool, with_spool_in, with_user, with_users};
+ghost use Rattle.plan_machine.specs.Spool.{is_closed, is_cut_name, is_graphic_name, is_name_of, is_spool, spool_name, spool_of, spool_parent, user_name, with_spool, with_spool_in, with_user, with_users};
 
 use crate::collection::{MachineSources, has_package};
 use crate::directories::{can_search, is_directory, is_directory_at, look, read_directory};
 use crate::files::{file_at, is_file, lead_of};
-use crate::source::{MachineSource, is_bad_name};
+use crate::source::MachineSource;
 use plan_rules::SourceKind;
 use plan_texts::Text;
 use plan_timers::{Why, copy_of};
@@ -165,11 +165,28 @@ fn with_user<T: Tree>(
     if dir == "var/spool/cron" && is_directory_at(alloc, tree, &end)? {
         return Ok(all);
     }
-    if is_bad_name(SourceKind::Spool, name) {
+    if is_cut_name(name.as_bytes()) {
         return all.with_skipped(alloc, path.as_str(), Why::BadName);
+    }
+    if !is_graphic_name(name.as_bytes()) {
+        return all.with_skipped(alloc, path.as_str(), Why::Escape);
     }
     let given = user_name(alloc, all.found(), names, name)?;
     with_user_file(alloc, tree, most, path.as_str(), &end, all, given.as_str())
+}
+
+// Returns whether no user can have a name: it has a byte that ends a name in etc/passwd.
+fn is_cut_name(name: &[u8]) -> bool
+    ensures { result ≡ is_cut_name name.now }
+{
+    name.iter().any(|byte| *byte == b':' || *byte == b'\n')
+}
+
+// Returns whether the names of jobs can begin with a name.
+fn is_graphic_name(name: &[u8]) -> bool
+    ensures { result ≡ is_graphic_name name.now }
+{
+    name.iter().all(|byte| byte.is_ascii_graphic())
 }
 
 // Adds the crontab of a user, by the path that leads to its file and the name that its jobs get.

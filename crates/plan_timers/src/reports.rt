@@ -13,7 +13,7 @@ pub enum Why {
     NoLink,
     /// A source can't have the name.
     BadName,
-    /// The name of an instance has a `\`.
+    /// The name of an instance has a `\`, or that of a user has other characters than graphic ones of ASCII.
     Escape,
     /// The timer has no file.
     NoSuchTimer,

@@ -14,4 +14,4 @@ returns-in_err-from_str-clause-read g c = failed _ (Run run.NoMemory) (inl refl)
 pub returns-clause-read : goal.returns-clause-read
 returns-clause-read g c =
     goes _ (rw c.as_str.ensures at c.in_ok-bytes.ensures.read)
-    (rw (c.new-name.ensures, c.in_ok-from_str.ensures.ok, c.file_name.ensures, c.as_str-2.ensures) refl)
+    (rw (c.new-name.ensures, c.in_ok-from_str.ensures.ok, c.name_by.ensures, c.file_name.ensures, c.as_str-2.ensures) refl)
