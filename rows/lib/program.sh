@@ -135,6 +135,7 @@ program_compare() {
 #   monotonic PATH KEY  the timer starts by KEY= alone, or by OnBootSec= if KEY is missing
 #   also PATH KEY       the timer also starts by KEY=
 #   anacron, at PATH, user PATH    jobs that aren't planned
+#   spool, lib          no directory of users' crontabs; no var/lib
 #   cron                no cron daemon
 #   zone                the zone is unknown
 #   clear COUNT, quiet COUNT    so many things are unknown: the last line, for which `last` is set
@@ -162,6 +163,8 @@ program_lines() {
       also) why="also starts by $why=" line=unknown: ;;
       at) why='jobs of at' line=unknown: ;;
       user) why='user timers' line=unknown: ;;
+      spool) path=var/spool/cron why="no directory of users' crontabs: is another disk mounted there?" line=unknown: ;;
+      lib) path=var/lib why='is another disk mounted there?' line=unknown: ;;
       cron)
         program_shown "$machine_root"
         line="no cron daemon below $text: crontabs start nothing" path=
