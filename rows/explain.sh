@@ -148,7 +148,7 @@ explain_try() {
     zone) eval "agenda next --after 2024-01-01T00:00:00Z --cron @daily $words" >/dev/null ;;
     moment) printf '@daily a\n' >"jobs" && eval "$words" >/dev/null ;;
     machine)
-      mkdir -p root/usr/sbin root/etc/cron.d && : >root/usr/sbin/cron && echo '@daily root x' >root/etc/cron.d/backup &&
+      mkdir -p root/{usr/sbin,etc/cron.d,var/lib,var/spool/cron} && : >root/usr/sbin/cron && echo '@daily root x' >root/etc/cron.d/backup &&
         eval "$words --root root" >/dev/null
       ;;
     baseline) eval "${words/ .. / --since 2024-01-01T00:00:00Z --until 2024-01-02T00:00:00Z }" && agenda changes before ;;

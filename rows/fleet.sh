@@ -220,7 +220,7 @@ fleet_names() {
   local name names=(-d '{}' '{1}' '%d' '$HOME' '`id`' "a'b" 'a"b' 'a\tb' 'a\\b' '&' '*' 'a;b' '~' '\0' 1e3 ' a ' ä '#')
   fleet_want </dev/null
   for name in "${names[@]}"; do
-    mkdir -p -- "$fleet_folder/names/$name/etc" "$fleet_folder/names/$name/usr/sbin"
+    mkdir -p -- "$fleet_folder/names/$name"/{etc,usr/sbin,var/lib,var/spool/cron}
     : >"$fleet_folder/names/$name/usr/sbin/fcron"
     echo '0 6 * * * root g' >"$fleet_folder/names/$name/etc/crontab"
     printf '2024-01-01T06:00:00Z\t%s\tsystem:1\troot g\n' "$name" >>"$work/out.wanted"
@@ -237,7 +237,7 @@ fleet_forty() {
   for number in {40..01}; do
     folders+=("m$number")
     [ ! -d "$fleet_folder/m$number" ] || continue
-    mkdir -p "$fleet_folder/m$number/etc" "$fleet_folder/m$number/usr/sbin"
+    mkdir -p "$fleet_folder/m$number"/{etc,usr/sbin,var/lib,var/spool/cron}
     : >"$fleet_folder/m$number/usr/sbin/fcron"
     echo '0 1,2 * * * root h' >"$fleet_folder/m$number/etc/crontab"
   done

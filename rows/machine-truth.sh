@@ -354,7 +354,38 @@ etc/x|clear||||0
 usr/x|clear||||0
 etc>nowhere|clear||||0
 ROWS
-machine_has_cron=yes program_has_boot=yes
+
+# So may a disk be missing below var, which isn't known either: each machine has var/lib, and one with a cron daemon the directory of users'
+# crontabs, of any layout. Other answers name these places, too, but neither check nor sources. A link is followed below the root.
+machine_has_system=no
+program_answers <<'ROWS'
+usr/x|clear|||lib,clear 1|4
+usr/x var/lib/|clear||||0
+usr/sbin/cron var/lib/|clear|||spool,clear 1|4
+usr/sbin/cron|clear|||spool,lib,clear 2|4
+usr/bin/crond var/lib/|clear|||spool,clear 1|4
+usr/sbin/crond/ var/lib/|clear||||0
+usr/sbin/cron var/lib/ F/|clear||||0
+usr/sbin/cron var/lib/ S/|clear||||0
+usr/sbin/cron var/lib/ T/|clear||||0
+usr/sbin/cron var/lib/ var/spool/|clear|||spool,clear 1|4
+usr/sbin/cron var/lib F/|clear|||lib,clear 1|4
+usr/x var/lib>/srv/lib srv/lib/|clear||||0
+usr/x var/lib>../srv/lib srv/lib/x|clear||||0
+usr/x var/lib>/srv/lib srv/lib|clear|||lib,clear 1|4
+usr/x var/lib>/srv/lib|clear|||lib,clear 1|4
+usr/x var/lib>/usr/share|clear|||lib,clear 1|4
+usr/x var/lib>lib|clear|||lib,clear 1|4
+usr/sbin/cron var/lib/ var/spool/cron>/srv/cron srv/cron/crontabs/|clear||||0
+usr/sbin/cron var/lib/ var/spool>/srv|clear|||spool,clear 1|4
+usr/sbin/cron|clear --except root/var/lib|||spool,lib,clear 1|4
+usr/sbin/cron|clear --except root/var/*|||spool,lib|0
+usr/sbin/cron etc/crontab=0\x203\x20*\x20*\x20*\x20root\x20x\n|clear --only root/var/*||agenda: --only: nothing is named 'root/var/*' [NothingNamed]||2
+usr/sbin/cron etc/crontab=0\x203\x20*\x20*\x20*\x20root\x20x\n|plan --utc --since 2024-01-01T03:00:00Z --until +1min|agenda 2>2024-01-01T03:00:00Z>2024-01-01T03:01:00Z>1;2024-01-01T03:00:00Z>system:1>root x||spool,lib|0
+usr/sbin/cron etc/crontab=0\x203\x20*\x20*\x20*\x20root\x20x\n|check||||0
+usr/sbin/cron etc/crontab=0\x203\x20*\x20*\x20*\x20root\x20x\n|sources|system-crontab>crontab>root/etc/crontab|||0
+ROWS
+machine_has_system=yes machine_has_cron=yes program_has_boot=yes
 
 # Of other questions an empty span is none, and errors have status 1.
 program_answers <<'ROWS'

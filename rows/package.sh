@@ -235,7 +235,7 @@ package_runs() {
 # Makes what the rows read: a crontab, and a machine's root with cron, a crontab and a timer that the boot starts.
 package_make_files() {
   local units=$package_dir/root/usr/lib/systemd/system enabled=$package_dir/root/etc/systemd/system/timers.target.wants
-  mkdir -p "$package_dir" "$units" "$enabled" "$package_dir/root/usr/sbin"
+  mkdir -p "$package_dir" "$units" "$enabled" "$package_dir/root"/{usr/sbin,var/lib,var/spool/cron}
   : >"$package_dir/root/usr/sbin/cron"
   echo '30 1 * * * dump-database' >"$package_dir/jobs"
   echo '0 4 * * * root b' >"$package_dir/root/etc/crontab"

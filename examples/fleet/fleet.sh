@@ -146,7 +146,7 @@ make_work() {
   done
   work=$(mktemp -d) || exit 3
   [[ $work = /* ]] || work=$PWD/$work
-  mkdir -p -- "$work/none/etc" "$work/temporary" || exit 3
+  mkdir -p -- "$work/none/etc" "$work/none/var/lib" "$work/temporary" || exit 3
   export TMPDIR=$work/temporary
 }
 

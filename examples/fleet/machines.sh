@@ -11,7 +11,7 @@ cp -R -- "$(dirname "$(readlink -f "$0")")/roots/." "$machines/"
 # cron ignores a user's crontab of another mode
 chmod 600 -- "$machines"/*/var/spool/cron/crontabs/*
 for machine in "$machines"/*/; do
-  mkdir -p -- "$machine/usr/sbin"
+  mkdir -p -- "$machine/usr/sbin" "$machine/var/lib" "$machine/var/spool/cron"
   : >"$machine/usr/sbin/cron"
   mkdir -p -- "$machine/lib/systemd/system"
   printf '[Unit]\nWants=timers.target\n' >"$machine/lib/systemd/system/default.target"

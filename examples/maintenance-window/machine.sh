@@ -10,7 +10,7 @@ wants=$machine/etc/systemd/system/timers.target.wants
 units=$machine/usr/lib/systemd/system
 mkdir -p -- "$machine"
 cp -R -- "$(dirname "$(readlink -f "$0")")/root/." "$machine/"
-mkdir -p -- "$wants" "$machine/usr/sbin"
+mkdir -p -- "$wants" "$machine/usr/sbin" "$machine/var/lib" "$machine/var/spool/cron"
 : >"$machine/usr/sbin/cron"
 printf '[Unit]\nWants=timers.target\n' >"$units/default.target"
 echo '[Unit]' >"$units/timers.target"

@@ -98,9 +98,14 @@ machine_close() {
   [ -L "$1" ] || [ ! -f "$1" ] || chmod 600 -- "$1"
 }
 
-# Makes the directory usr of the root $1, if that has neither etc nor usr: without one it is rejected.
-machine_add_usr() {
+# Makes what a system has below the root $1: var/lib and var/spool/cron, since agenda reports that they are missing, and usr if neither
+# etc nor usr is there, since without one the root is rejected. Nothing is made beyond a link.
+machine_add_system() {
   local name
+  for name in var var/lib var/spool var/spool/cron; do
+    [ ! -L "$1/$name" ] || break
+    [ -e "$1/$name" ] || mkdir -- "$1/$name" 2>/dev/null || break
+  done
   for name in etc usr; do
     if [ -e "$1/$name" ] || [ -L "$1/$name" ]; then return; fi
   done
@@ -119,7 +124,7 @@ machine_make() {
     machine_entry "$entry"
   done
   [ "$machine_has_cron" = no ] || machine_entry "$machine_daemon"
-  [ "$machine_has_system" = no ] || machine_add_usr "$machine_folder/$machine_root"
+  [ "$machine_has_system" = no ] || machine_add_system "$machine_folder/$machine_root"
 }
 
 # Sets `tzif` to the escaped text of a TZif file: $1 seconds east of UTC, with the name $2, in 1970, and the

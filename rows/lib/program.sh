@@ -136,6 +136,7 @@ program_compare() {
 #   also PATH KEY       the timer also starts by KEY=
 #   otherwise PATH:LINE systemd may read the line otherwise
 #   anacron, at PATH, user PATH    jobs that aren't planned
+#   spool, lib          no directory of users' crontabs; no var/lib
 #   cron                no cron daemon
 #   zone                the zone is unknown
 #   clear COUNT, quiet COUNT    so many things are unknown: the last line, for which `last` is set
@@ -164,6 +165,8 @@ program_lines() {
       otherwise) why='systemd may read it otherwise' line=unknown: ;;
       at) why='jobs of at' line=unknown: ;;
       user) why='user timers' line=unknown: ;;
+      spool) path=var/spool/cron why="no directory of users' crontabs: is another disk mounted there?" line=unknown: ;;
+      lib) path=var/lib why='is another disk mounted there?' line=unknown: ;;
       cron)
         program_shown "$machine_root"
         line="no cron daemon below $text: crontabs start nothing" path=

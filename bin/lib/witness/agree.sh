@@ -192,7 +192,7 @@ agree_on_timers() {
 # Compares what else starts the timers of the directory $agreed with what agenda reports of a machine that has their units.
 agree_on_triggers() {
   local name machine=$work/agree/machine units=$work/agree/machine/usr/lib/systemd/system wrong
-  mkdir -p -- "$units" && cp -- "$agreed"/*.timer "$agreed/default.target" "$units/"
+  mkdir -p -- "$units" "$machine/var/lib" && cp -- "$agreed"/*.timer "$agreed/default.target" "$units/"
   while IFS= read -r name; do
     [ -e "$units/$name" ] || printf '[Service]\nExecStart=/bin/true\n' >"$units/$name"
   done < <(sed -n 's/^\t\tUnit: //p' "$agreed/systemd" | grep -v / | sort -u)

@@ -22,7 +22,7 @@ make_places() {
 # Makes the root $1 with the crontab on standard input, which cron would load, and a copy of the directory $2 at $3. /bin is /usr/bin,
 # which has none of the commands.
 make_idle_root() {
-  mkdir -p "$1"/etc "$1"/usr/sbin "$1"/usr/bin "$1$(dirname -- "$3")"
+  mkdir -p "$1"/{etc,usr/sbin,usr/bin,var/lib,var/spool/cron} "$1$(dirname -- "$3")"
   ln -s usr/bin "$1/bin"
   printf 'root:x:0:0:root:/root:/bin/sh\n' >"$1/etc/passwd"
   : >"$1/usr/sbin/cron"

@@ -25,7 +25,7 @@ ask_timestamps() {
 # Compares a third as many times as other texts, in some zones.
 compare_timestamps() {
   local directory=$work/timestamps zone at=0
-  mkdir -p "$directory/root/etc"
+  mkdir -p "$directory/root/etc" "$directory/root/var/lib"
   for zone in "${timestamp_zones[@]}"; do
     at=$((at + 1))
     awk -f "$parts/timestamp-texts.awk" -v count=$((cases / 15)) -v seed=$((seed * 10 + at)) -v changes="$timestamp_changes" \

@@ -1,5 +1,5 @@
 -- The jobs of a machine that an answer is about, and what isn't known of them. All of it is our choice (agenda).
-use Rattle.std.specs.Prelude.{ℕ, Bool, true, false, List, ◌++◌, Option, None, Some, codes, map}
+use Rattle.std.specs.Prelude.{ℕ, Bool, true, false, List, ◌++◌, Option, None, Some, codes}
 use Rattle.plan_machine.specs.declared.NotPlanned.{NotPlanned}
 use Rattle.plan_machine.specs.declared.machine.Machine.{Machine}
 use Rattle.plan_rules.specs.Job.{JobParts}
@@ -7,7 +7,7 @@ use Rattle.agenda_faults.specs.declared.faults.Failure.TheVariants as failure
 use Rattle.agenda_faults.specs.declared.machine_faults.MachineFault.TheVariants.{NothingExcepted, NothingChosen}
 use Rattle.agenda_inputs.specs.MachineZone.{fails_with}
 use Rattle.agenda_inputs.specs.Steps.{Step, computes, gives, ◌>>=◌}
-use Rattle.agenda_machine.specs.Choice.{left_jobs, left_unknown, unchosen, unexcepted}
+use Rattle.agenda_machine.specs.Choice.{left_jobs, left_unknown, names_of_machine, unchosen, unexcepted}
 use Rattle.agenda_machine.specs.Unknown.{unknowns_of}
 use Rattle.agenda_sources.specs.declared.Found.{Found}
 use Rattle.agenda_sources.specs.declared.SourcePath.{SourcePath}
@@ -26,9 +26,9 @@ abbrev pub left_in :
 left_in root machine unplanned paths errors is_zone_unknown all planned except only =
     let sources = machine.sources.items in
     let skipped = machine.skipped.items in
-    let jobs = map (λ job. job.name) all in
     let front = root ++ codes "/" in do
       unknown ← computes (unknowns_of root sources skipped unplanned paths errors is_zone_unknown)
-      excepted ← names_if (unexcepted front sources skipped unplanned jobs unknown except) false
-      chosen ← names_if (unchosen sources skipped unplanned jobs unknown only) true
+      names ← computes (names_of_machine sources skipped unplanned all unknown)
+      excepted ← names_if (unexcepted front names except) false
+      chosen ← names_if (unchosen names only) true
       computes (record { jobs = left_jobs except only planned; unknown = left_unknown front except only unknown })

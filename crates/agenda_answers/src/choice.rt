@@ -11,8 +11,8 @@ ghost use Rattle.agenda_sources.specs.Findings.{kept_jobs};
 use crate::machine_answer::Skipped;
 use agenda_faults::{Failure, MachineFault};
 use agenda_machine::{
-    Choice, Named, Reading, count_left, left_out, located, names_of, paths_of, root_of, unchosen,
-    unexcepted, unknowns,
+    Choice, Reading, count_left, left_out, located, names_of, names_of_machine, paths_of, root_of,
+    unchosen, unexcepted, unknowns,
 };
 use agenda_sources::{Found, Kept, Sources, TimeZones, kept_of_sources};
 use plan_machine::Machine;
@@ -80,15 +80,14 @@ pub(crate) fn left_of(
         reading.now.errors.now reading.now.is_zone_unknown jobs.all jobs.planned except.now only.now result }
 {
     let unknown = unknowns(alloc, reading)?;
-    let names = names_of(alloc, &jobs.all)?;
-    let named = Named {
-        machine: reading.machine,
-        jobs: names.as_slice(),
-        unknown: unknown.as_slice(),
-    };
+    let names = names_of_machine(alloc, reading.machine, &jobs.all, unknown.as_slice())?;
     let front = front_of(alloc, reading.root)?;
-    names_if(alloc, unexcepted(except, front.as_str(), &named), false)?;
-    names_if(alloc, unchosen(only, &named), true)?;
+    names_if(
+        alloc,
+        unexcepted(except, front.as_str(), names.as_slice()),
+        false,
+    )?;
+    names_if(alloc, unchosen(only, names.as_slice()), true)?;
     let choice = Choice {
         front: front.as_str(),
         except,

@@ -46,9 +46,9 @@ none_reported held unplanned daemon (source ∷ more) =
 
 pub unplanned_are :
     (held : Held) (idle : Bool) (machine : Machine) →
-    unplanned_jobs machine ++ flat_map (idle_of held idle machine.unplanned.items machine.cron_daemon) machine.sources.items
+    unplanned_jobs held machine ++ flat_map (idle_of held idle machine.unplanned.items machine.cron_daemon) machine.sources.items
     ≡ unplanned_with_idle held idle machine
 unplanned_are held true machine =
-    ap (λ jobs. unplanned_jobs machine ++ jobs) (none_reported held machine.unplanned.items machine.cron_daemon machine.sources.items)
-    ∙ append-nil (unplanned_jobs machine)
+    ap (λ jobs. unplanned_jobs held machine ++ jobs) (none_reported held machine.unplanned.items machine.cron_daemon machine.sources.items)
+    ∙ append-nil (unplanned_jobs held machine)
 unplanned_are held false machine = refl

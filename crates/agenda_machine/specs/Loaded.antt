@@ -1,21 +1,26 @@
 -- The sources of a machine as a plan reads them: only what its daemons load, and without its idle jobs (agenda).
-use Rattle.std.specs.Prelude.{◌≡◌, ℕ, Bool, true, false, List, [], ◌∷◌, ◌++◌, filter, map, Option, None, Some, Ok}
+use Rattle.std.specs.Prelude.{◌≡◌, ℕ, Bool, true, false, if◌then◌else◌, List, [], ◌∷◌, ◌++◌, codes, filter, map, Option, None, Some, Ok}
 use Rattle.std.specs.List.{cons_option, flat_map}
 use Rattle.std.specs.Option.{option_map}
 use Rattle.agenda_sources.specs.declared.Source.{Source}
 use Rattle.agenda_machine.specs.Idle.{idle_reports, kept_text, whose_crontab}
 use Rattle.plan_loads.specs.Loading.{loading_of}
 use Rattle.plan_loads.specs.Texts.{KnownLoading}
+use Rattle.plan_machine.specs.Daemon.{has_cron_daemon}
 use Rattle.plan_machine.specs.Source.{SourceParts}
 use Rattle.plan_machine.specs.declared.CronDaemon.{CronDaemon}
 use Rattle.plan_machine.specs.declared.NotPlanned.{NotPlanned}
+use Rattle.plan_machine.specs.declared.Unplanned.TheVariants.{LineUnknown}
 use Rattle.plan_machine.specs.declared.machine.Machine.{Machine}
 use Rattle.plan_rules.specs.declared.Kind.{Kind}
 use Rattle.plan_rules.specs.Crontab.{entries_of_lines}
 use Rattle.plan_rules.specs.FileText.{text_reading}
 use Rattle.plan_runs.specs.Idle.{is_active}
 use Rattle.plan_texts.specs.Lines.{lines}
+use Rattle.plan_tree.specs.Links.{end_of}
 use Rattle.plan_tree.specs.Tree.{Held}
+use Rattle.plan_tree.specs.declared.links.End.{End}
+use Rattle.plan_tree.specs.declared.links.End.TheVariants.{Found}
 
 -- ---- what is loaded
 
@@ -39,12 +44,28 @@ unloaded_from unplanned daemon (source ∷ more) =
 abbrev pub loaded_sources : Machine → List Source
 loaded_sources machine = loaded_from machine.unplanned.items machine.cron_daemon machine.sources.items
 
--- what isn't planned on a machine by a question about jobs: what isn't anyway, and what isn't loaded by its text or starts at times that
--- this doesn't tell
-abbrev pub unplanned_jobs : Machine → List NotPlanned
-unplanned_jobs machine =
-    machine.unplanned.items
-    ++ unloaded_from machine.unplanned.items machine.cron_daemon machine.sources.items
+-- ---- what is missing
+
+-- the report of a directory, by where its path with `/.` at its end leads: if nowhere, it may be on a disk that isn't mounted (agenda)
+abbrev pub missing_place : End → (path why : List ℕ) → List NotPlanned
+missing_place (Found dir) path why = []
+missing_place other path why = record { path = path; why = LineUnknown 0 why } ∷ []
+
+-- the directories that a machine lacks, though it has to have them: that of users' crontabs, which comes with a cron daemon, and var/lib,
+-- which has the users that linger (agenda)
+abbrev pub missing_places : Held → List NotPlanned
+missing_places held =
+    (if has_cron_daemon held.node
+    then missing_place (end_of held.node (codes "var/spool/cron/.")) (codes "var/spool/cron")
+    (codes "no directory of users' crontabs: is another disk mounted there?")
+    else [])
+    ++ missing_place (end_of held.node (codes "var/lib/.")) (codes "var/lib") (codes "is another disk mounted there?")
+
+-- what isn't planned on a machine by a question about jobs: what isn't anyway, what isn't loaded by its text or starts at times that
+-- this doesn't tell, and what is missing
+abbrev pub unplanned_jobs : Held → Machine → List NotPlanned
+unplanned_jobs held machine =
+    machine.unplanned.items ++ unloaded_from machine.unplanned.items machine.cron_daemon machine.sources.items ++ missing_places held
 
 -- ---- idle jobs
 
@@ -68,8 +89,8 @@ idle_jobs held machine = flat_map (idle_of held false machine.unplanned.items ma
 
 -- what isn't planned on a machine by a question about jobs
 abbrev pub unplanned_with_idle : Held → (idle : Bool) → Machine → List NotPlanned
-unplanned_with_idle held true machine = unplanned_jobs machine
-unplanned_with_idle held false machine = unplanned_jobs machine ++ idle_jobs held machine
+unplanned_with_idle held true machine = unplanned_jobs held machine
+unplanned_with_idle held false machine = unplanned_jobs held machine ++ idle_jobs held machine
 
 -- ---- the law
 

@@ -25,10 +25,10 @@ unfoldable pub skipped_line : (root : List ℕ) → Skipped → List ℕ
 skipped_line root one =
     skipped_heading one.why ++ (shown (below root one.path) ++ (codes ": " ++ (shown (why_text one.why) ++ codes "\n")))
 
--- the number of a line that isn't planned
+-- the number of a line that isn't planned; what is unknown at line 0 is no line
 abbrev pub line_mark : Unplanned → List ℕ
 line_mark (LineNotLoaded line why) = codes ":" ++ decimal line
-line_mark (LineUnknown line why) = codes ":" ++ decimal line
+line_mark (LineUnknown line why) = if line == 0 then [] else codes ":" ++ decimal line
 line_mark (Idle line why) = codes ":" ++ decimal line
 line_mark other = []
 

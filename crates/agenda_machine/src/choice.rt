@@ -1,19 +1,16 @@
 //! Which jobs of a machine an answer is about, by patterns of their names.
 
-ghost use Rattle.std.specs.Prelude.{◌≡◌, ◌&&◌, IfOk, false, filter, map, nat_eq, not};
+ghost use Rattle.std.specs.Prelude.{◌≡◌, ◌&&◌, ◌||◌, ◌==◌, if◌then◌else◌, [], IfOk, filter, length, map, nat_eq};
 ghost use Rattle.std.specs.List.{list_all, list_any, starts_with};
 ghost use Rattle.std.specs.Option.{option_map, option_map_or};
-ghost use Rattle.agenda_machine.specs.Choice.{fits_any, is_left_out, is_named, label_in, lacks_unit, leaves_out, leaves_out_job, left_unknown, unchosen, unexcepted};
-ghost use Rattle.agenda_machine.specs.JobFiles.{label_of};
+ghost use Rattle.agenda_machine.specs.Choice.{is_excluded, label_in, left_unknown, names_of_machine, unchosen, unexcepted};
 ghost use Rattle.agenda_patterns.specs.Pattern.{fits};
-ghost use Rattle.agenda_sources.specs.Name.{file_name};
-ghost use Rattle.plan_timers.specs.Reports.{is_unknown_skip};
 
 use crate::job_files::{cut_name, has_only_digits, label_of};
 use crate::unknown::{Name, Unknown};
 use agenda_patterns::fits;
 use agenda_sources::file_name;
-use plan_machine::{Machine, MachineSource, NotPlanned, Skipped, Unplanned};
+use plan_machine::{Machine, Unplanned};
 use plan_rules::Jobs;
 use plan_texts::Text;
 use std::alloc::{AllocError, Global};
@@ -28,17 +25,6 @@ pub struct Choice<'a> {
     pub except: &'a [Text],
     /// All other jobs are left out, unless this is empty.
     pub only: &'a [Text],
-}
-
-/// What has names on a machine.
-#[derive(Clone, Copy)]
-pub struct Named<'a> {
-    /// The machine: its timers and crontabs, and the files that are skipped or not planned.
-    pub machine: &'a Machine,
-    /// The names of its jobs, also of idle ones.
-    pub jobs: &'a [Text],
-    /// What is unknown of it.
-    pub unknown: &'a [Unknown],
 }
 
 /// Returns the names of jobs, in order.
@@ -58,14 +44,59 @@ pub fn names_of(alloc: Global, jobs: &Jobs) -> Result<Vec<Text>, AllocError>
     Ok(names)
 }
 
+/// Returns all names that a machine has: of its jobs, also of idle ones, of its timers and crontabs, of the files of what is off, and of
+/// the jobs of what is unknown of it.
+///
+/// # Errors
+///
+/// `AllocError` if an allocation fails.
+pub fn names_of_machine(
+    alloc: Global,
+    machine: &Machine,
+    jobs: &Jobs,
+    unknown: &[Unknown],
+) -> Result<Vec<Text>, AllocError>
+    ensures { IfOk result (λ names. names.items ≡ names_of_machine machine.now.sources.items machine.now.skipped.items
+        machine.now.unplanned.items jobs.now unknown.now) }
+{
+    let mut names = names_of(alloc, jobs)?;
+    for source in machine.sources.as_slice() {
+        let label = label_of(source.kind(), source.name());
+        names.push(Text::new(String::from_str(alloc, label)?))?;
+    }
+    for job in machine.unplanned.as_slice() {
+        if let Unplanned::UnitMissing(_)
+        | Unplanned::UnitMasked(_)
+        | Unplanned::UnitIdle(_) = &job.why
+        {
+            let name = file_name(job.path.as_str());
+            names.push(Text::new(String::from_str(alloc, name)?))?;
+        }
+    }
+    for file in machine.skipped.as_slice() {
+        if !file.why.is_unknown() {
+            let name = file_name(file.path.as_str());
+            names.push(Text::new(String::from_str(alloc, name)?))?;
+        }
+    }
+    for one in unknown {
+        for name in one.names.as_slice() {
+            if let Some(job) = &name.job {
+                names.push(Text::new(String::from_str(alloc, job.as_str())?))?;
+            }
+        }
+    }
+    Ok(names)
+}
+
 /// Returns those of these names of jobs that are left out.
 pub fn left_out(choice: Choice<'_>, names: Vec<Text>) -> Vec<Text>
-    ensures { result.items ≡ filter (λ name. leaves_out choice.entry.except.now choice.entry.only.now (label_in name) name) names.items }
+    ensures { result.items ≡ filter (λ name. is_excluded choice.entry.except.now choice.entry.only.now (label_in name) name) names.items }
 {
     let mut left = names;
     left.retain(|name| {
         let job = name.as_str();
-        leaves_out(choice, label_in(job), job)
+        leaves_out(choice.except, choice.only, label_in(job), job)
     });
     left
 }
@@ -76,126 +107,46 @@ pub fn count_left(choice: Choice<'_>, unknown: &[Unknown]) -> usize
 {
     unknown
         .iter()
-        .filter(|one| !is_left_out(choice, one))
+        .filter(|one| !leaves_out_unknown(choice, one))
         .count()
 }
 
-/// Returns the first pattern of `--only` that no name fits: of a timer, a crontab or a job, or of the file of what is off.
-pub fn unchosen<'a>(patterns: &'a [Text], named: &Named<'_>) -> Option<&'a Text>
-    ensures { option_map (λ pattern. pattern.now) result
-        ≡ unchosen named.now.machine.now.sources.items named.now.machine.now.skipped.items named.now.machine.now.unplanned.items
-        named.now.jobs.now named.now.unknown.now patterns.now }
+/// Returns the first pattern of `--only` that fits none of the names of a machine.
+pub fn unchosen<'a>(patterns: &'a [Text], names: &[Text]) -> Option<&'a Text>
+    ensures { option_map (λ pattern. pattern.now) result ≡ unchosen names.now patterns.now }
 {
     patterns
         .iter()
-        .find(|pattern| !is_named(pattern.as_str(), named))
+        .find(|pattern| !fits_one(pattern.as_str(), names))
 }
 
-/// Returns the first pattern of `--except` that no name fits, unless it is for paths: what these have may come and go.
-pub fn unexcepted<'a>(patterns: &'a [Text], front: &str, named: &Named<'_>) -> Option<&'a Text>
-    ensures { option_map (λ pattern. pattern.now) result
-        ≡ unexcepted front.now named.now.machine.now.sources.items named.now.machine.now.skipped.items
-        named.now.machine.now.unplanned.items named.now.jobs.now named.now.unknown.now patterns.now }
+/// Returns the first pattern of `--except` that fits none of the names of a machine, unless it is for paths: what these have may come
+/// and go.
+pub fn unexcepted<'a>(patterns: &'a [Text], front: &str, names: &[Text]) -> Option<&'a Text>
+    ensures { option_map (λ pattern. pattern.now) result ≡ unexcepted front.now names.now patterns.now }
 {
-    patterns.iter().find(|pattern| !is_path(pattern.as_str(), front)
-        && !is_named(pattern.as_str(), named))
+    patterns.iter().find(|pattern| !pattern.as_str().as_bytes().starts_with(front.as_bytes())
+        && !fits_one(pattern.as_str(), names))
 }
 
-// Returns whether a pattern is for paths, which begin so.
-fn is_path(pattern: &str, front: &str) -> bool
-    ensures { result ≡ starts_with nat_eq pattern.now front.now }
+// Returns whether a pattern fits one of these names.
+fn fits_one(pattern: &str, names: &[Text]) -> bool
+    ensures { result ≡ list_any (fits pattern.now) names.now }
 {
-    pattern.as_bytes().starts_with(front.as_bytes())
+    names.iter().any(|name| fits(pattern, name.as_str()))
 }
 
-// Returns whether a name fits a pattern: of a timer, a crontab or a job, or of the file of what is off.
-fn is_named(pattern: &str, named: &Named<'_>) -> bool
-    ensures { result ≡ is_named named.now.machine.now.sources.items named.now.machine.now.skipped.items
-        named.now.machine.now.unplanned.items named.now.jobs.now named.now.unknown.now pattern.now }
+// Returns whether something unknown is left out.
+fn leaves_out_unknown(choice: Choice<'_>, one: &Unknown) -> bool
+    ensures { result ≡ (if length one.now.names == 0
+        then list_any (λ pattern. starts_with nat_eq pattern choice.entry.front.now && fits pattern one.now.path) choice.entry.except.now
+        else list_all (λ name. option_map_or (is_excluded choice.entry.except.now choice.entry.only.now name.label) name.job
+        (is_excluded choice.entry.except.now [] name.label name.label)) one.now.names) }
 {
-    let machine = named.machine;
-    has_job(pattern, named.jobs)
-        || has_source(pattern, machine.sources.as_slice())
-        || has_idle(pattern, machine.unplanned.as_slice())
-        || has_off(pattern, machine.skipped.as_slice())
-        || has_unknown(pattern, named.unknown)
-}
-
-// Returns whether a name of a job fits a pattern.
-fn has_job(pattern: &str, jobs: &[Text]) -> bool
-    ensures { result ≡ list_any (fits pattern.now) jobs.now }
-{
-    jobs.iter().any(|name| fits(pattern, name.as_str()))
-}
-
-// Returns whether the name of a timer or a crontab fits a pattern.
-fn has_source(pattern: &str, sources: &[MachineSource]) -> bool
-    ensures { result ≡ list_any (λ one. fits pattern.now (label_of one.kind one.name)) sources.now }
-{
-    sources
-        .iter()
-        .any(|one| fits(pattern, label_of(one.kind(), one.name())))
-}
-
-// Returns whether the name of a timer fits a pattern that isn't planned since its unit starts nothing.
-fn has_idle(pattern: &str, unplanned: &[NotPlanned]) -> bool
-    ensures { result ≡ list_any (λ one. lacks_unit one.why && fits pattern.now (file_name one.path)) unplanned.now }
-{
-    unplanned.iter().any(|one| lacks_unit(&one.why) && fits(pattern, file_name(one.path.as_str())))
-}
-
-// Returns whether a timer isn't planned since its unit starts nothing.
-fn lacks_unit(why: &Unplanned) -> bool
-    ensures { result ≡ lacks_unit why.now }
-{
-    matches!(
-        why,
-        Unplanned::UnitMissing(_) | Unplanned::UnitMasked(_) | Unplanned::UnitIdle(_)
-    )
-}
-
-// Returns whether the name of a file fits a pattern that is skipped, and surely starts nothing.
-fn has_off(pattern: &str, skipped: &[Skipped]) -> bool
-    ensures { result ≡ list_any (λ one. not (is_unknown_skip one.why) && fits pattern.now (file_name one.path)) skipped.now }
-{
-    skipped.iter().any(|one| !one.why.is_unknown() && fits(pattern, file_name(one.path.as_str())))
-}
-
-// Returns whether the name of a job of something unknown fits a pattern.
-fn has_unknown(pattern: &str, unknown: &[Unknown]) -> bool
-    ensures { result ≡ list_any (λ one. list_any (λ name. option_map_or (fits pattern.now) name.job false) one.names) unknown.now }
-{
-    unknown
-        .iter()
-        .any(|one| has_name(pattern, one.names.as_slice()))
-}
-
-// Returns whether the job of one of these names fits a pattern.
-fn has_name(pattern: &str, names: &[Name]) -> bool
-    ensures { result ≡ list_any (λ name. option_map_or (fits pattern.now) name.job false) names.now }
-{
-    names.iter().any(|name| is_of(pattern, name))
-}
-
-// Returns whether the job of a name fits a pattern.
-fn is_of(pattern: &str, name: &Name) -> bool
-    ensures { result ≡ option_map_or (fits pattern.now) name.now.job false }
-{
-    match &name.job {
-        Some(job) => fits(pattern, job.as_str()),
-        None => false,
-    }
-}
-
-// Returns whether something unknown is left out: each of its names, or if it has none by its path.
-fn is_left_out(choice: Choice<'_>, one: &Unknown) -> bool
-    ensures { result ≡ is_left_out choice.entry.front.now choice.entry.except.now choice.entry.only.now one.now }
-{
-    let names = one.names.as_slice();
-    if names.is_empty() {
+    if one.names.is_empty() {
         leaves_out_path(choice, one.path.as_str())
     } else {
-        leaves_out_all(choice, names)
+        leaves_out_all(choice, one.names.as_slice())
     }
 }
 
@@ -203,41 +154,39 @@ fn is_left_out(choice: Choice<'_>, one: &Unknown) -> bool
 fn leaves_out_path(choice: Choice<'_>, path: &str) -> bool
     ensures { result ≡ list_any (λ pattern. starts_with nat_eq pattern choice.entry.front.now && fits pattern path.now) choice.entry.except.now }
 {
-    choice.except.iter().any(|pattern| is_path(pattern.as_str(), choice.front)
+    choice.except.iter().any(|pattern| pattern
+        .as_str()
+        .as_bytes()
+        .starts_with(choice.front.as_bytes())
         && fits(pattern.as_str(), path))
 }
 
-// Returns whether all of these names are left out.
+// Returns whether all of these names are left out. That of a whole crontab isn't left out by the name of another job.
 fn leaves_out_all(choice: Choice<'_>, names: &[Name]) -> bool
-    ensures { result ≡ list_all (leaves_out_job choice.entry.except.now choice.entry.only.now) names.now }
+    ensures { result ≡ list_all (λ name. option_map_or (is_excluded choice.entry.except.now choice.entry.only.now name.label) name.job
+        (is_excluded choice.entry.except.now [] name.label name.label)) names.now }
 {
-    names.iter().all(|name| leaves_out_job(choice, name))
-}
-
-// Returns whether a name is left out. That of a whole crontab isn't left out by the name of another job.
-fn leaves_out_job(choice: Choice<'_>, name: &Name) -> bool
-    ensures { result ≡ leaves_out_job choice.entry.except.now choice.entry.only.now name.now }
-{
-    match &name.job {
-        Some(job) => leaves_out(choice, name.label.as_str(), job.as_str()),
-        None => fits_any(choice.except, name.label.as_str()),
-    }
+    names.iter().all(|name| {
+        let label = name.label.as_str();
+        match &name.job {
+            Some(job) => leaves_out(choice.except, choice.only, label, job.as_str()),
+            None => leaves_out(choice.except, &[], label, label),
+        }
+    })
 }
 
 // Returns whether a job of a timer or a crontab with this label is left out.
-fn leaves_out(choice: Choice<'_>, label: &str, job: &str) -> bool
-    ensures { result ≡ leaves_out choice.entry.except.now choice.entry.only.now label.now job.now }
+fn leaves_out(except: &[Text], only: &[Text], label: &str, job: &str) -> bool
+    ensures { result ≡ is_excluded except.now only.now label.now job.now }
 {
-    fits_any(choice.except, label)
-        || fits_any(choice.except, job)
-        || !choice.only.is_empty() && !fits_any(choice.only, label) && !fits_any(choice.only, job)
+    has_pattern(except, label, job) || !only.is_empty() && !has_pattern(only, label, job)
 }
 
-// Returns whether a name fits one of these patterns.
-fn fits_any(patterns: &[Text], name: &str) -> bool
-    ensures { result ≡ fits_any patterns.now name.now }
+// Returns whether one of these patterns fits the name of a job or its label.
+fn has_pattern(patterns: &[Text], label: &str, job: &str) -> bool
+    ensures { result ≡ list_any (λ pattern. fits pattern label.now || fits pattern job.now) patterns.now }
 {
-    patterns.iter().any(|pattern| fits(pattern.as_str(), name))
+    patterns.iter().any(|pattern| fits(pattern.as_str(), label) || fits(pattern.as_str(), job))
 }
 
 // Returns the label of a job: of a crontab's job what its name has before the number of its line, and of a timer its name.

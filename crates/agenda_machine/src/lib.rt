@@ -21,7 +21,7 @@ mod root;
 mod scripts;
 mod unknown;
 
-pub use choice::{Choice, Named, count_left, left_out, names_of, unchosen, unexcepted};
+pub use choice::{Choice, count_left, left_out, names_of, names_of_machine, unchosen, unexcepted};
 pub use job_files::{files_of_jobs, lines_are_in_names};
 pub use listing::write_sources;
 pub use loaded::{

@@ -5,15 +5,16 @@ ghost use Rattle.std.specs.List.{cons_option, flat_map};
 ghost use Rattle.std.specs.Option.{option_map};
 ghost use Rattle.agenda_machine.specs.Idle.{idle_reports};
 ghost use Rattle.agenda_machine.specs.IdleJobs.{IdleJobsAreExcepted};
-ghost use Rattle.agenda_machine.specs.Loaded.{IdleJobsOfMachineAreLeftOut, idle_jobs, idle_of, kept_source, loaded_from, loaded_source, planned_sources, unloaded_from, unplanned_with_idle};
+ghost use Rattle.agenda_machine.specs.Loaded.{IdleJobsOfMachineAreLeftOut, idle_jobs, idle_of, kept_source, loaded_from, loaded_source, missing_place, missing_places, planned_sources, unloaded_from, unplanned_with_idle};
 ghost use Rattle.plan_loads.specs.Loading.{loading_of};
+ghost use Rattle.plan_tree.specs.Links.{end_of};
 
 use crate::idle::{Kept, kept_of};
 use agenda_sources::{Bytes, Source, Sources};
 use plan_loads::{Loading, loading_of};
-use plan_machine::{CronDaemon, Machine, MachineSource, NotPlanned};
+use plan_machine::{CronDaemon, Machine, MachineSource, NotPlanned, Unplanned, has_cron_daemon};
 use plan_texts::Text;
-use plan_tree::Tree;
+use plan_tree::{End, Tree, follow};
 use std::alloc::{AllocError, Global};
 
 /// A machine, and its sources as a plan reads them.
@@ -34,8 +35,7 @@ pub fn idle_jobs_of_machine_are_left_out()
 {}
 
 /// States the law of answers without idle jobs: the jobs of a plan without idle jobs are those of a plan with them, in the same
-/// order, but for the jobs with the names of idle ones. So an answer without `--idle` is that with `--idle`, and with `--except`
-/// for each idle job.
+/// order, but for the jobs with the names of idle ones. So an answer with `--idle` has the same jobs, and the idle ones.
 ///
 /// No job may have the name of another, and there may be at most 1,000 jobs with the idle ones: else an idle job may take the
 /// place of another one. `check` and each answer report both as errors.
@@ -66,8 +66,8 @@ struct LoadedSource {
 }
 
 /// Returns the sources of a machine as a plan reads them, and the machine with what isn't planned of them: what its daemons don't
-/// load and what starts at times that files don't tell, as `loading_of` of plan_loads says, and idle jobs, as `active_crontab` of
-/// plan_runs finds them. With `idle` these are planned, and not reported.
+/// load and what starts at times that files don't tell, as `loading_of` of plan_loads says, directories that are missing, and idle jobs,
+/// as `active_crontab` of plan_runs finds them. With `idle` these are planned, and not reported.
 ///
 /// # Errors
 ///
@@ -97,6 +97,8 @@ pub fn with_loaded<T: Tree>(
         machine.sources.as_slice(),
     )?;
     let machine = with_reports(machine, reports)?;
+    let missing = missing_reports(alloc, tree)?;
+    let machine = with_reports(machine, missing)?;
     let machine = with_reports(machine, jobs)?;
     Ok(LoadedMachine {
         machine,
@@ -123,6 +125,49 @@ pub fn with_idle<T: Tree>(alloc: Global, tree: &T, machine: Machine) -> Result<M
         machine.sources.as_slice(),
     )?;
     with_reports(machine, loaded.jobs)
+}
+
+// Returns the reports of the directories that a machine lacks.
+fn missing_reports<T: Tree>(alloc: Global, tree: &T) -> Result<Vec<NotPlanned>, AllocError>
+    ensures { T.is_known ≡ true → IfOk result (λ all. all.items ≡ missing_places (T.held tree.now)) }
+{
+    let mut all = Vec::new(alloc);
+    if has_cron_daemon(alloc, tree)? {
+        let why = "no directory of users' crontabs: is another disk mounted there?";
+        add_missing(
+            alloc,
+            tree,
+            &mut all,
+            "var/spool/cron/.",
+            "var/spool/cron",
+            why,
+        )?;
+    }
+    let why = "is another disk mounted there?";
+    add_missing(alloc, tree, &mut all, "var/lib/.", "var/lib", why)?;
+    Ok(all)
+}
+
+// Adds the report of a directory, unless its path leads to one: `dir` is the path with `/.` at its end.
+fn add_missing<T: Tree>(
+    alloc: Global,
+    tree: &T,
+    all: &mut Vec<NotPlanned>,
+    dir: &str,
+    path: &str,
+    why: &str,
+) -> Result<(), AllocError>
+    ensures { T.is_known ≡ true → OnOk result (all.new.items
+        ≡ all.old.items ++ missing_place (end_of (T.held tree.now).node dir.now) path.now why.now) }
+{
+    if let End::Found(_) = follow(alloc, tree, dir)? {
+        return Ok(());
+    }
+    all.push(NotPlanned {
+        path: Text::new(String::from_str(alloc, path)?),
+        why: Unplanned::LineUnknown(0, Text::new(String::from_str(alloc, why)?)),
+    })?;
+    Ok(())
 }
 
 // Returns a machine with more that isn't planned, at the end.

@@ -187,15 +187,16 @@ fn put_place_of<S: Stream>(root: &str, one: &NotPlanned, lines: &mut TextWriter<
     put_line_mark(&one.why, lines);
 }
 
-// Puts the number of the line that isn't planned, if it is one line.
+// Puts the number of the line that isn't planned, if it is one line: line 0 is none.
 fn put_line_mark<S: Stream>(why: &Unplanned, lines: &mut TextWriter<'_, S>)
     ensures { Takes S.holds S.takes_all lines.old lines.new (line_mark why.now) }
 {
-    if let Unplanned::LineNotLoaded(line, _)
-    | Unplanned::LineUnknown(line, _)
-    | Unplanned::Idle(line, _) = why
-    {
-        lines.put_both(b":", Digits::new().format(*line).as_bytes());
+    match why {
+        Unplanned::LineUnknown(0, _) => {}
+        Unplanned::LineNotLoaded(line, _)
+        | Unplanned::LineUnknown(line, _)
+        | Unplanned::Idle(line, _) => lines.put_both(b":", Digits::new().format(*line).as_bytes()),
+        _ => {}
     }
 }
 
