@@ -96,7 +96,10 @@ impl<'a> DiskTree<'a> {
             return Err(AllocError);
         }
         if !is_absence(&fault) {
-            let path = Text::new(String::from_str(alloc, self.failing_part(path))?);
+            // `.` is checked in a directory that is to be searched
+            let part = self.failing_part(path);
+            let part = part.strip_suffix("/.").unwrap_or(part);
+            let path = Text::new(String::from_str(alloc, part)?);
             let mut failed = self.failed.replace(Vec::new(alloc));
             failed.push(path)?;
             self.failed.set(failed);
