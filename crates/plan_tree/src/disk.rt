@@ -84,7 +84,7 @@ impl<'a> DiskTree<'a> {
         Ok(bytes)
     }
 
-    // Keeps a path at which an error occurred, or its first part that can't be looked at, and returns `other`.
+    // Keeps the path that is the reason of an error at a path, and returns `other`.
     fn fail<V: Drop>(
         &self,
         alloc: Global,
@@ -96,10 +96,7 @@ impl<'a> DiskTree<'a> {
             return Err(AllocError);
         }
         if !is_absence(&fault) {
-            // `.` is checked in a directory that is to be searched
-            let part = self.failing_part(path);
-            let part = part.strip_suffix("/.").unwrap_or(part);
-            let path = Text::new(String::from_str(alloc, part)?);
+            let path = Text::new(String::from_str(alloc, self.failing_part(path))?);
             let mut failed = self.failed.replace(Vec::new(alloc));
             failed.push(path)?;
             self.failed.set(failed);
@@ -107,14 +104,31 @@ impl<'a> DiskTree<'a> {
         Ok(other)
     }
 
-    // Returns the first part of a path that can't be looked at, or all of it.
+    // Returns the part of a path that is the reason of an error: the first directory that can't be searched, or else the first part
+    // that can't be looked at, or else all of it.
     fn failing_part<'p>(&self, path: &'p str) -> &'p str {
+        let mut dir = path;
         for (end, _) in path.match_indices('/') {
             let part = &path[..end];
-            if !part.is_empty() && fs::symlink_metadata(self.runtime, part).is_err() {
-                return part;
+            if !part.is_empty() {
+                if let Err(fault) = fs::symlink_metadata(self.runtime, part) {
+                    return blamed(dir, part, &fault);
+                }
+                dir = part;
             }
         }
+        match fs::symlink_metadata(self.runtime, path) {
+            Ok(_) => path,
+            Err(fault) => blamed(dir, path, &fault),
+        }
+    }
+}
+
+// Returns which of a directory and a path in it is the reason of an error at the path.
+fn blamed<'p>(dir: &'p str, path: &'p str, fault: &io::Error) -> &'p str {
+    if fault.kind() == ErrorKind::PermissionDenied {
+        dir
+    } else {
         path
     }
 }
@@ -172,7 +186,7 @@ impl Tree for DiskTree<'_> {
     fn failures(&self, alloc: Global, dir: &str) -> Result<Vec<Text>, AllocError> {
         let mut failures = Vec::new(alloc);
         for path in self.failed.replace(Vec::new(alloc)) {
-            let part = path.as_str().strip_prefix(dir).unwrap_or(path.as_str());
+            let part = path.as_str().strip_prefix(dir).unwrap_or("");
             failures.push(Text::new(String::from_str(alloc, part)?))?;
         }
         Ok(failures)

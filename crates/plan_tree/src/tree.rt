@@ -91,8 +91,8 @@ pub trait Tree {
         ensures { is_known ≡ true → IfOk result (λ bytes.
             option_map (λ read. read.items) bytes ≡ option_map (take most) ((held self.now).bytes path.now)) };
 
-    /// Returns the paths below a directory at which an error occurred since the last call, other than that nothing is there.
-    /// They are relative to the directory. A tree that contracts know has none.
+    /// Returns the paths below a directory at which an error occurred since the last call, other than that nothing is there: of a
+    /// directory that can't be searched its own. They are relative to the directory. A tree that contracts know has none.
     fn failures(&self, alloc: Global, _dir: &str) -> Result<Vec<Text>, AllocError>
         ensures { is_known ≡ true → IfOk result (λ paths. paths.items ≡ []) }
     {
