@@ -526,7 +526,7 @@ C/a=x\n S/b=x\n|etc/cron.d|S/b,1,BadSetting,expected NAME=VALUE, or five fields 
 *a.timer U/a.timer=DAILY U/a.timer.d/x.conf=[Timer]\nOnCalendar=24:00\n|U/a.timer.d||U/a.timer.d not readable
 etc/localtime>/usr/share/zoneinfo/No/Where usr/share/zoneinfo/No/Where=EAST|usr/share/zoneinfo/No/Where||zone
 etc/localtime>/usr/share/zoneinfo/No/Where usr/share/zoneinfo/No/Where=EAST|usr/share/zoneinfo||zone
-etc/localtime=CET|etc||etc/crontab not readable,etc/cron.d not readable,zone
+etc/localtime=CET|etc||etc/crontab not readable,etc/cron.d not readable,etc not readable,zone
 etc/localtime=CET|etc/localtime||zone
 ROWS
 else

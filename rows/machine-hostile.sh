@@ -300,7 +300,7 @@ hostile_locked() {
 if machine_as_nobody && "${machine_by[@]}" "$machine_folder/whole/agenda" --version >/dev/null 2>&1; then
   hostile_locked <<'ROWS'
 etc/crontab C/a S/b|etc/crontab C/a S/b||etc/crontab not readable,C/a not readable,S/b not readable
-etc/crontab C/a|etc||etc/crontab not readable,etc/cron.d not readable
+etc/crontab C/a|etc||etc/crontab not readable,etc/cron.d not readable,etc not readable
 C/a C/b.c|etc/cron.d||etc/cron.d not readable
 S/a|var/spool/cron/crontabs||var/spool/cron/crontabs not readable
 T/a F/b|var/spool/cron/tabs||var/spool/cron/tabs not readable
@@ -310,17 +310,17 @@ F/a|var/spool/cron||var/spool/cron not readable
 %a U/a.timer.d/x.conf|U/a.timer.d/x.conf|U/a.timer|U/a.timer.d/x.conf not readable
 %a U/a.timer.d/x.conf|U/a.timer.d|U/a.timer|U/a.timer.d not readable
 %a *b.timer U/timer.d/x.conf U/b.timer|U/timer.d|U/a.timer U/b.timer|U/timer.d not readable
-%a E/b.timer.d/x.conf E/a.service.d/x.conf|E/b.timer.d E/a.service.d|U/a.timer|
-E/x.target=[Unit]\nWants=a.timer\n U/a.timer|E/x.target||
+%a E/b.timer.d/x.conf E/a.service.d/x.conf|E/b.timer.d E/a.service.d|U/a.timer|E/b.timer.d not readable,E/a.service.d not readable
+E/x.target=[Unit]\nWants=a.timer\n U/a.timer|E/x.target||E/x.target not readable
 %a|etc/systemd/system/x.target.wants||etc/systemd/system/x.target.wants not readable
-%a E/y.target.wants/b.timer>y|E/y.target.wants|U/a.timer|
+%a E/y.target.wants/b.timer>y|E/y.target.wants|U/a.timer|E/y.target.wants not readable
 %a E/target.requires/b.timer|E/target.requires|U/a.timer|E/target.requires not readable
 %a|etc/systemd/system||etc/systemd/system not readable
-%a *b.timer L/b.timer|usr/lib|L/b.timer|D/a.timer no such timer
-C/a>/opt/x opt/x|opt||C/a not readable
-C/a>/opt/d/x opt/d/x|opt||C/a not readable
-F/atjobs/a home/ann/.config/systemd/user/a.timer home/bo/.config/systemd/user/a.timer|F/atjobs home/ann||user home/bo/.config/systemd/user
-C/a|usr/sbin|C/a|
+%a *b.timer L/b.timer|usr/lib|L/b.timer|D/a.timer no such timer,usr/lib not readable
+C/a>/opt/x opt/x|opt||C/a not readable,opt not readable
+C/a>/opt/d/x opt/d/x|opt||C/a not readable,opt not readable
+F/atjobs/a home/ann/.config/systemd/user/a.timer home/bo/.config/systemd/user/a.timer|F/atjobs home/ann||F/atjobs not readable,home/ann not readable,user home/bo/.config/systemd/user
+C/a|usr/sbin|C/a|usr/sbin not readable
 ROWS
   # directories that can be listed, and not searched
   hostile_mode=444
@@ -331,7 +331,7 @@ F/a|var/spool/cron||var/spool/cron not readable
 %a|etc/systemd/system||etc/systemd/system not readable
 %a D/b.timer|etc/systemd/system/x.target.wants||etc/systemd/system/x.target.wants not readable
 %a U/a.timer.d/x.conf|U/a.timer.d|U/a.timer|U/a.timer.d/x.conf not readable,U/a.timer.d not readable
-F/atjobs/a home/ann/.config/systemd/user/a.timer|F/atjobs home/ann/.config/systemd/user||
+F/atjobs/a home/ann/.config/systemd/user/a.timer|F/atjobs home/ann/.config/systemd/user||F/atjobs not readable,home/ann/.config/systemd/user not readable
 ROWS
   hostile_mode=000
 else
