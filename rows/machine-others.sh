@@ -268,13 +268,14 @@ machine_has_cron=yes
 
 # ---- without rights
 
-# Directories that may not be searched are no reason for a line of this kind.
+# Directories that may not be searched are reported by themselves: what is below them may start jobs.
 if machine_as_nobody && "${machine_by[@]}" "$machine_folder/whole/agenda" --version >/dev/null 2>&1; then
   program_make 'C/a F/atjobs/a home/ann/.config/systemd/user/a.timer root/.config/systemd/user/a.timer home/bo/.config/systemd/user/a.timer'
   for path in var/spool/cron/atjobs home/ann root usr/sbin; do
     chmod 000 "$machine_folder/root/$path"
   done
-  others_are 'check plan' 'user home/bo/.config/systemd/user' 'directories without rights'
+  others_are 'check plan' "usr/sbin not readable,F/atjobs not readable,home/ann not readable,root not readable,user home/bo/.config/systemd/user" \
+    'directories without rights'
   chmod -R u+rwX "$machine_folder/root"
   program_make 'C/a F/root'
   chmod 700 "$machine_folder/root/var/spool/cron"
